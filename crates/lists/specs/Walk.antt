@@ -1,0 +1,35 @@
+-- Walks along links: `next` gives the number that each number links to.
+use mathlib.Core.Path.{_≡_, refl, ap}
+use mathlib.Core.Bool.{Bool, true}
+use mathlib.Core.List.{List, [], _∷_, _++_}
+use Prim.Native.Nat.{ℕ, zero, suc, _<_}
+use lib.ListN.{length}
+use Rattle.lists.specs.Once.{Below}
+
+module _ (next : ℕ → ℕ) where
+  -- the number k links on from i
+  unfoldable pub hop : ℕ → ℕ → ℕ
+  hop zero i = i
+  hop (suc k) i = hop k (next i)
+
+  -- the k numbers from i on
+  unfoldable pub walk : ℕ → ℕ → List ℕ
+  walk zero i = []
+  walk (suc k) i = i ∷ walk k (next i)
+
+  pub walk-length : (k i : ℕ) → length (walk k i) ≡ k
+  unfolding walk
+  walk-length zero i = refl
+  walk-length (suc k) i = ap suc (walk-length k (next i))
+
+  -- one link further
+  pub hop-next : (k i : ℕ) → hop (suc k) i ≡ next (hop k i)
+  unfolding hop
+  hop-next zero i = refl
+  hop-next (suc k) i = hop-next k (next i)
+
+  -- where links stay below n, so do the numbers met
+  pub walk-below : (n : ℕ) → ((i : ℕ) → i < n → next i < n) → (k i : ℕ) → i < n → Below n (walk k i)
+  unfolding walk
+  walk-below n h zero i l = tt
+  walk-below n h (suc k) i l = (l, walk-below n h k (next i) (h i l))

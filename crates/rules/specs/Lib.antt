@@ -1,0 +1,21 @@
+-- The driver's rules (document 01), as a small machine over numbers and lists. Everything computes.
+--   Record      the private record, what it says, stores to it
+--   WellFormed  when it is well formed: ten clauses, the first broken one
+--   Meaning     the same in plain words
+--   Answer      the numbers of "When the queue says no", and what a call answers
+--   Step        one access of the open call, and the record's reaction to it
+--   Calls       refusals, openings, runs, whole calls, calls of a single step
+--   New         the call new
+--   Owning      the owning queue
+--   Computing   a name that opens every definition that a worked example runs through
+--   Cases       the cases that document 01 marks P, one statement over one list
+pub mod Record
+pub mod WellFormed
+pub mod Meaning
+pub mod Answer
+pub mod Step
+pub mod Calls
+pub mod New
+pub mod Owning
+pub mod Computing
+pub mod Cases

@@ -1,0 +1,131 @@
+-- When a record is well formed (document 01, "The record"): ten clauses in 01's order, each a test that computes, and the number of the first
+-- that is broken.
+use mathlib.Core.Bool.{Bool, true, false, not, cond, _&&_, _||_}
+use mathlib.Core.List.{List, [], _∷_, _++_}
+use Prim.Native.Nat.{ℕ, zero, suc, _+_, _-_, _*_, _%_, _^_}
+use lib.Dec.{ltb, leb, eqb}
+use Rattle.lists.specs.Index.{ahead}
+use Rattle.lists.specs.Pick.{Test, _when_, first, every, tally, one-if}
+use Rattle.lists.specs.Once.{mem, onceEach}
+use Rattle.virtio.specs.declared.Buffer.{Buffer}
+use Rattle.virtio.specs.Desc.{hasNext}
+use Rattle.virtio.specs.Layout.{needPool}
+use Rattle.virtio.specs.Chain.{inOrder}
+use Rattle.rules.specs.declared.Open.{Open}
+use Rattle.rules.specs.declared.Open.the-variants.{Idle, Add, PopIdx, PopId, PopLen, PopStore, PeekIdx, PeekId}
+use Rattle.rules.specs.Record.{Queue, descOf, nextOf, notedOf, outstanding, freeCount, freeList, chainOf, isIndirect, slotAddr, entriesOf, sizeOf, buffersOf, isOpen, isAdd}
+
+-- a size that is allowed: a power of two, 1 to 64 (01, part 1)
+unfoldable pub sizeOk : ℕ → Bool
+sizeOk n = mem n (1 ∷ 2 ∷ 4 ∷ 8 ∷ 16 ∷ 32 ∷ 64 ∷ [])
+
+-- a base that new takes for a region with this need: on a page, and base and need within 2^64 (01, number 13)
+abbrev pub baseOk : ℕ → ℕ → Bool
+baseOk base size = eqb (base % 4096) 0 && leb (base + size) (2 ^ 64)
+
+-- no buffer of the list is empty
+unfoldable pub noEmpty : List Buffer → Bool
+noEmpty [] = true
+noEmpty (b ∷ bs) = not (eqb (b .len) 0) && noEmpty bs
+
+module _ (q : Queue) where
+  -- the chains of the m heads from h on, one after the other; a number that heads none has an empty one
+  unfoldable pub chainsFrom : ℕ → ℕ → List ℕ
+  chainsFrom zero h = []
+  chainsFrom (suc m) h = chainOf q h ++ chainsFrom m (suc h)
+
+  -- all descriptors that are named: the free ones, and those of the outstanding chains
+  abbrev pub named : List ℕ
+  named = freeList q ++ chainsFrom (q .n) 0
+
+  -- of the k descriptors from i on each has NEXT but the last
+  unfoldable pub linked : ℕ → ℕ → Bool
+  linked zero i = true
+  linked (suc zero) i = not (hasNext (descOf q i))
+  linked (suc (suc k)) i = hasNext (descOf q i) && linked (suc k) (nextOf q i)
+
+  -- an indirect head: flags 4, its slot's address, a list of 2 to n buffers, and 16 times that as length
+  abbrev pub indirectHead : ℕ → Bool
+  indirectHead h =
+      q .modes .indirect
+      && (eqb (descOf q h .flags) 4
+      && (eqb (descOf q h .addr) (slotAddr q h)
+      && (leb 2 (entriesOf q h) && (leb (entriesOf q h) (q .n) && eqb (descOf q h .len) (16 * entriesOf q h)))))
+
+  -- how many chains are outstanding
+  abbrev pub outCount : ℕ
+  outCount = tally (outstanding q) (q .n) 0
+
+  -- how many steps an add of the chain at h has: a store for each buffer, the last descriptor or the indirect one, ring slot, idx;
+  -- and a pop behind its loads: a store for each of the count descriptors, and used_event if it is in use
+  abbrev pub addSteps : ℕ → ℕ
+  addSteps h = sizeOf q h + 3
+
+  abbrev pub storeSteps : ℕ → ℕ
+  storeSteps count = count + one-if (q .modes .«event_idx»)
+
+  -- the open call names a step that it has; an add has an outstanding head; a storing pop's descriptors are free
+  abbrev pub callOk : Open → Bool
+  callOk Idle = true
+  callOk (Add h i) = outstanding q h && ltb i (addSteps h)
+  callOk (PopIdx t b) = true
+  callOk (PopId t b) = true
+  callOk (PopLen t b d) = true
+  callOk (PopStore k i l) = ltb i (storeSteps k) && leb k (freeCount q)
+  callOk PeekIdx = true
+  callOk PeekId = true
+
+  -- a test at each outstanding head
+  unfoldable pub everyHead : (ℕ → Bool) → Bool
+  everyHead p = every (λ h. not (outstanding q h) || p h) (q .n) 0
+
+  -- ---- THE CLAUSES
+
+  abbrev pub size-clause : Bool
+  size-clause = sizeOk (q .n)
+
+  abbrev pub base-clause : Bool
+  base-clause = cond (q .modes .indirect) (baseOk (q .base) (needPool (q .n))) (eqb (q .base) 0)
+
+  abbrev pub used-clause : Bool
+  used-clause = leb (q .counts .used) (q .n)
+
+  abbrev pub next-clause : Bool
+  next-clause = ltb (q .counts .free) (q .n) && every (λ i. ltb (nextOf q i) (q .n)) (q .n) 0
+
+  abbrev pub once-clause : Bool
+  once-clause = onceEach (q .n) named
+
+  abbrev pub end-clause : Bool
+  end-clause = everyHead (λ h. linked (notedOf q h) h)
+
+  abbrev pub indirect-clause : Bool
+  indirect-clause = everyHead (λ h. not (isIndirect q h) || indirectHead h)
+
+  abbrev pub buffer-clause : Bool
+  buffer-clause = everyHead (λ h. noEmpty (buffersOf q h) && inOrder (buffersOf q h))
+
+  abbrev pub count-clause : Bool
+  count-clause = eqb (ahead (q .counts .avail) (q .counts .last) + one-if (isAdd (q .call))) outCount
+
+  abbrev pub call-clause : Bool
+  call-clause = callOk (q .call)
+
+  -- the number of the first broken clause, 0 where none is
+  unfoldable pub broken : ℕ
+  broken = first (
+      (1 when not size-clause)
+      ∷ (2 when not base-clause)
+      ∷ (3 when not used-clause)
+      ∷ (4 when not next-clause)
+      ∷ (5 when not once-clause)
+      ∷ (6 when not end-clause)
+      ∷ (7 when not indirect-clause)
+      ∷ (8 when not buffer-clause)
+      ∷ (9 when not count-clause)
+      ∷ (10 when not call-clause)
+      ∷ []
+      )
+
+  unfoldable pub wellFormed : Bool
+  wellFormed = eqb broken 0
