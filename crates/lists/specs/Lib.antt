@@ -1,11 +1,15 @@
 -- Numbers and lists, with nothing of virtio in them.
---   Index    indices that count mod 65,536
---   Bytes    little-endian fields of any width in a list of bytes, and their laws
---   Pick     the first of a list of tests that holds; a test at each of a run of numbers; a run of a list's entries
---   Walk     the numbers along links
---   Once     a list that names each of 0..n-1 once: the computed test, and its plain meaning
+--   Index     indices that count mod 65,536
+--   Bytes     little-endian fields of any width in a list of bytes, and their laws
+--   Tests     tests as facts
+--   Pick      the first of a list of tests that holds; a test at each of a run of numbers; a run of a list's entries
+--   Walk      the numbers along links
+--   Once      a list that names each of 0..n-1 once: the computed test, and its plain meaning
+--   PickLaws  laws of Pick's definitions
 pub mod Index
 pub mod Bytes
+pub mod Tests
 pub mod Pick
 pub mod Walk
 pub mod Once
+pub mod PickLaws

@@ -7,6 +7,7 @@ use native.Mathlib.Omega.{arith}
 use borrow.Author.Tests.{lt-ltb, ltb-true, eq-eqb, ne-eqb, eqb-true, eqb-false, not-true}
 use lib.Dec.{ltb, eqb}
 use lib.ListN.{length}
+use Rattle.lists.specs.Tests.{by-eq, and-left, and-right}
 
 -- x is one of xs
 unfoldable pub mem : ℕ → List ℕ → Bool
@@ -41,14 +42,6 @@ pub record Once (n : ℕ) (xs : List ℕ) : Type 0 where
   pub each : (i : ℕ) → i < n → count i xs ≡ 1
   pub only : Below n xs
 
-pub and-left : (a b : Bool) → (a && b) ≡ true → a ≡ true
-and-left true b e = refl
-and-left false b e = e
-
-pub and-right : (a b : Bool) → (a && b) ≡ true → b ≡ true
-and-right true b e = e
-and-right false b e = absurd (false≢true e)
-
 pub below-append : (n : ℕ) (xs ys : List ℕ) → Below n xs → Below n ys → Below n (xs ++ ys)
 below-append n [] ys a b = b
 below-append n (x ∷ xs) ys a b = (a .0, below-append n xs ys (a .1) b)
@@ -77,13 +70,6 @@ count-other x y ys e = rw (ne-eqb x y e)
 sumTo : (ℕ → ℕ) → ℕ → ℕ
 sumTo f zero = 0
 sumTo f (suc n) = f n + sumTo f n
-
-by-eq : {P : Type 0} (a b : ℕ) → (a ≡ b → P) → ((a ≡ b → ⊥) → P) → P
-by-eq {P} a b yes' no' = go (eqb a b) refl
-  where
-    go : (t : Bool) → eqb a b ≡ t → P
-    go true e = yes' (eqb-true a b e)
-    go false e = no' (eqb-false a b e)
 
 sum-none : (n : ℕ) → sumTo (λ i. count i []) n ≡ 0
 unfolding sumTo count

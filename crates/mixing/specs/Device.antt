@@ -1,14 +1,15 @@
 -- A device that keeps the rules (document 01, "Step by step", last paragraph; VIRTIO 1.1, 2.6.8 and 2.6.14): one act open at a time, one load or
 -- store a step, and no store but to the used ring.
+use mathlib.Core.Path.{_≡_, refl}
 use mathlib.Core.Bool.{Bool, true, false, not, cond, _&&_, _||_}
 use mathlib.Core.List.{List, [], _∷_, _++_, map}
 use Prim.Native.Nat.{ℕ, zero, suc, _+_, _-_, _*_, _/_, _%_}
 use lib.Dec.{ltb, leb, eqb}
 use Rattle.lists.specs.Index.{after}
-use Rattle.lists.specs.Once.{mem}
 use Rattle.virtio.specs.declared.Desc.{Desc}
 use Rattle.virtio.specs.declared.Buffer.{Buffer}
 use Rattle.virtio.specs.Desc.{hasNext, hasIndirect, bufferOf}
+use Rattle.virtio.specs.Device.{mayGiveBack, givingBack, written}
 use Rattle.virtio.specs.Memory.{Memory, Place, desc, entry, avail-flags, avail-idx, used-event, avail-ring, used-flags, used-idx, avail-event, used-id, used-len, spot, loadAt, storeAt, loadDescAt}
 
 -- What the device knows of the queue: its size, its layout, and the address of the pool.
@@ -99,7 +100,7 @@ module _ (w : Wiring) where
   -- An opening: take and complete make no load and no store yet; a single step is made at once.
   abbrev pub begin : Act → Device → Memory → Worked
   begin take d m = goes d take-idx m
-  begin (complete h l) d m = cond (mem h (d .holds)) (goes d (complete-id h l) m) (comes d not-taken m)
+  begin (complete h l) d m = cond (mayGiveBack (d .holds) h) (goes d (complete-id h l) m) (comes d not-taken m)
   begin (set-used-flags v) d m = comes d stored (put used-flags v m)
   begin (set-avail-event v) d m = comes d stored (put avail-event v m)
   begin see-avail-flags d m = comes d (saw (see avail-flags m)) m
@@ -152,3 +153,9 @@ module _ (w : Wiring) where
   work (complete-id h l) d m = goes d (complete-len h l) (put (used-id (d .used % w .n)) h m)
   work (complete-len h l) d m = goes d (complete-idx h l) (put (used-len (d .used % w .n)) l m)
   work (complete-idx h l) d m = completeIdx h d m
+
+  -- The three stores of a complete are the ones by which VIRTIO has a chain given back.
+  pub completes : (h l : ℕ) (d : Device) (m : Memory)
+      → work (complete-idx h l) d (work (complete-len h l) d (work (complete-id h l) d m .memory) .memory) .memory
+      ≡ written (w .legacy) (w .n) (givingBack (w .n) (d .used) h l) m
+  completes h l d m = refl

@@ -26,7 +26,7 @@ lists = record { indirect = true; «event_idx» = false; legacy = false }
 abbrev pub events : Modes
 events = record { indirect = false; «event_idx» = true; legacy = false }
 
-pub four : Modes → Made
+unfoldable pub four : Modes → Made
 four o =
     new (record { n = 4; in-use = false; most = 4; modes = o; base-one = 0; base-two = 4096; base-pool = 8192 })
     (record { one = replicate 78 0; two = replicate 38 0; pool = replicate 256 0 })

@@ -8,7 +8,11 @@
 --   New         the call new
 --   Owning      the owning queue
 --   Computing   a name that opens every definition that a worked example runs through
---   Cases       the cases that document 01 marks P, one statement over one list
+-- Tried, each file one statement over one list:
+--   Cases       the cases that document 01 marks P
+--   Worked      01's worked replay, and what calls leave in memory
+--   Orders      each two refusals that follow one another in 01's orders
+--   Clauses     each clause of a well-formed record, broken
 pub mod Record
 pub mod WellFormed
 pub mod Meaning
@@ -19,3 +23,6 @@ pub mod New
 pub mod Owning
 pub mod Computing
 pub mod Cases
+pub mod Worked
+pub mod Orders
+pub mod Clauses

@@ -1,9 +1,11 @@
--- What each side may write of a queue's fields: the driver the table, the available ring and the indirect lists, the device the used ring
--- (VIRTIO 1.1, 2.6: "2.6.5 descriptor table", 2.6.6, 2.6.8). When the device may is told by its acts: it fills an element, of a chain that was made
--- available to it and that it has not given back, and then counts idx on (2.6.8); document 01, "Step by step", has them as single stores.
+-- What each side may write of a queue's fields, and when (VIRTIO 1.1, 2.6, 2.6.6, 2.6.8): the driver writes the table, the available ring and the
+-- indirect lists, the device the used ring. The device gives a chain back that was made available to it and that it has not given back yet.
 use mathlib.Core.Bool.{Bool, true, false, not}
-use Prim.Native.Nat.{ℕ}
-use Rattle.virtio.specs.Memory.{Place, desc, avail-flags, avail-idx, used-event, avail-ring, used-flags, used-idx, avail-event, used-id, used-len, entry}
+use mathlib.Core.List.{List, [], _∷_}
+use Prim.Native.Nat.{ℕ, _%_}
+use Rattle.lists.specs.Index.{after}
+use Rattle.lists.specs.Once.{mem}
+use Rattle.virtio.specs.Memory.{Memory, Place, desc, avail-flags, avail-idx, used-event, avail-ring, used-flags, used-idx, avail-event, used-id, used-len, entry, spot, storeAt}
 
 -- the fields that the device writes
 abbrev pub deviceWrites : Place → Bool
@@ -22,3 +24,24 @@ deviceWrites (entry j) = false
 -- each field has one writer
 abbrev pub driverWrites : Place → Bool
 driverWrites p = not (deviceWrites p)
+
+-- A store of a number to a field; a run of them.
+pub record Write : Type 0 where
+  pub place : Place
+  pub number : ℕ
+
+abbrev pub written : Bool → ℕ → List Write → Memory → Memory
+written legacy n [] m = m
+written legacy n (w ∷ ws) m = written legacy n ws (storeAt (spot legacy n (w .place)) (w .number) m)
+
+-- 2.6.8: the device that holds these chains' heads may give back the one at h
+abbrev pub mayGiveBack : List ℕ → ℕ → Bool
+mayGiveBack holds h = mem h holds
+
+-- and does it by the element's two fields, in the slot that its count of used chains names, and idx after them
+abbrev pub givingBack : ℕ → ℕ → ℕ → ℕ → List Write
+givingBack n used h len =
+    record { place = used-id (used % n); number = h }
+    ∷ record { place = used-len (used % n); number = len }
+    ∷ record { place = used-idx; number = after used }
+    ∷ []

@@ -1,0 +1,1 @@
+// No code. specs/ has what follows from the rules alone.
