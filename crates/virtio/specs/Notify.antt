@@ -20,6 +20,10 @@ byEvent event old c = ltb (ahead event old) c
 abbrev pub needEvent : ℕ → ℕ → ℕ → Bool
 needEvent event new c = ltb (ahead new (after event)) c
 
+-- four entries that end at index 2 stand at 65,534 to 1, three of them at 65,535 to 1
+across-the-wrap : (needEvent 65534 2 4 ≡ true) × (needEvent 65534 2 3 ≡ false) × (byEvent 65534 65534 4 ≡ true) × (byEvent 65534 65535 3 ≡ false)
+across-the-wrap = (refl, refl, refl, refl)
+
 -- ---- the two forms are one, for up to 65,536 entries
 
 reach : (old g k : ℕ) → (((old + g) % 65536 + 1) % 65536 + k) % 65536 ≡ (old + (g + 1 + k)) % 65536
