@@ -2,7 +2,7 @@
 ghost use mathlib.Core.Path.{_≡_};
 ghost use Prim.Native.Nat.{_≤_, _^_};
 ghost use lib.ListN.{length};
-ghost use Rattle.virtio.specs.Layout.{tableSize, availSize, usedSize, pageUp, availAt, usedAt, needOne, needTwo, needPool};
+ghost use Rattle.virtio.specs.Layout.{tableSize, availSize, usedSize, pageUp, usedAt, needOne, needTwo, needPool};
 ghost use Rattle.layout.specs.Parts.{usedRingOf};
 
 // The bytes of the descriptor table.
