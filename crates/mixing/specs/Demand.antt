@@ -2,12 +2,12 @@
 -- Where it leaves no call and no act half done, there is an order of whole calls and whole acts that leaves the very same trace: each side's own
 -- operations in its own order, the same answers, the same chains taken and numbers seen, the same end memory, byte for byte, and record.
 use mathlib.Core.Path.{_≡_}
-use mathlib.Core.Bool.{Bool, true, false}
+use mathlib.Core.Bool.{false}
 use mathlib.Core.List.{List, [], _∷_, _++_}
 use Prim.Native.Nat.{ℕ, _+_}
 use lib.ListN.{replicate}
 use Rattle.virtio.specs.Memory.{Memory}
-use Rattle.rules.specs.Record.{Queue, isOpen}
+use Rattle.rules.specs.Record.{isOpen}
 use Rattle.rules.specs.New.{Ask, Made, new}
 use Rattle.mixing.specs.Device.{Wiring, Act, freshDevice, acting}
 use Rattle.mixing.specs.Mix.{Call, Event, call, step, act, tick, Trace, trace}

@@ -1,10 +1,10 @@
 -- A device that keeps the rules (document 01, "Step by step", last paragraph; VIRTIO 1.1, 2.6.8 and 2.6.14): one act open at a time, one load or
 -- store a step, and no store but to the used ring.
 use mathlib.Core.Path.{_≡_, refl}
-use mathlib.Core.Bool.{Bool, true, false, not, cond, _&&_, _||_}
-use mathlib.Core.List.{List, [], _∷_, _++_, map}
-use Prim.Native.Nat.{ℕ, zero, suc, _+_, _-_, _*_, _/_, _%_}
-use lib.Dec.{ltb, leb, eqb}
+use mathlib.Core.Bool.{Bool, true, false, cond}
+use mathlib.Core.List.{List, [], _∷_, _++_}
+use Prim.Native.Nat.{ℕ, zero, suc, _+_, _-_, _/_, _%_}
+use lib.Dec.{eqb}
 use Rattle.lists.specs.Index.{after}
 use Rattle.virtio.specs.declared.Desc.{Desc}
 use Rattle.virtio.specs.declared.Buffer.{Buffer}

@@ -1,14 +1,14 @@
 -- Mixings: events of the driver and of the device, one opening, load or store at a time, and the trace that they leave.
-use mathlib.Core.Bool.{Bool, true, false, not, cond, _&&_, _||_}
+use mathlib.Core.Bool.{Bool, cond}
 use mathlib.Core.List.{List, [], _∷_, _++_}
-use Prim.Native.Nat.{ℕ, zero, suc, _+_}
+use Prim.Native.Nat.{ℕ}
 use lib.Dec.{eqb}
 use Rattle.virtio.specs.declared.Buffer.{Buffer}
 use Rattle.virtio.specs.Memory.{Memory}
 use Rattle.rules.specs.Record.{Queue, isOpen}
 use Rattle.rules.specs.Answer.{Outcome, Busy}
 use Rattle.rules.specs.Calls.{openAdd, openPop, openPeek, step as stepOf, canPop, shouldNotify, setDevNotify, availableDesc}
-use Rattle.mixing.specs.Device.{Wiring, Act, Result, Doing, Device, Done, going, ended, Worked, acting, begin, work}
+use Rattle.mixing.specs.Device.{Wiring, Act, Result, Device, Done, going, ended, Worked, acting, begin, work}
 
 -- The calls of document 01's part 3, after new.
 pub data Call : Type 0 where

@@ -1,7 +1,7 @@
 -- Mixings of a queue of size 2, computed: where each ends, and the order of whole calls and whole acts that explains it. They try the statement before
 -- it is proved, and show that it is not empty: calls and acts of each kind are open across steps of the other side.
 use mathlib.Core.Path.{_≡_, refl, sym, _∙_}
-use mathlib.Core.Bool.{Bool, true, false}
+use mathlib.Core.Bool.{true, false}
 use mathlib.Core.List.{List, [], _∷_, _++_}
 use Prim.Native.Nat.{ℕ}
 use lib.ListN.{replicate}
@@ -12,11 +12,11 @@ use Rattle.virtio.specs.Memory.{Memory}
 use Rattle.rules.specs.declared.Modes.{Modes}
 use Rattle.rules.specs.declared.Open.the-variants.{Idle}
 use Rattle.rules.specs.Record.{Queue, Counts}
-use Rattle.rules.specs.New.{Ask, Made, new}
+use Rattle.rules.specs.New.{Ask, new}
 use Rattle.rules.specs.Computing.{computing}
-use Rattle.mixing.specs.Device.{Act, take, complete, set-used-flags, set-avail-event, see-avail-flags, see-used-event}
-use Rattle.mixing.specs.Device.{Result, none-available, not-taken, completed, stored, took, saw, Device, resting, without}
-use Rattle.mixing.specs.Mix.{Call, add, pop-used, peek-used, can-pop, should-notify, available-desc, set-dev-notify}
+use Rattle.mixing.specs.Device.{take, complete, set-used-flags, set-avail-event, see-avail-flags, see-used-event}
+use Rattle.mixing.specs.Device.{none-available, not-taken, completed, stored, took, saw, Device, resting, without}
+use Rattle.mixing.specs.Mix.{add, pop-used, peek-used, can-pop, should-notify, available-desc, set-dev-notify}
 use Rattle.mixing.specs.Mix.{Event, call, step, act, tick, Answer, Trace, event, trace}
 use Rattle.mixing.specs.Demand.{Whole, whole-call, whole-act, inTurn, start, wiring, Explained}
 

@@ -2,12 +2,12 @@
 -- budget, whole calls, and the calls of a single step.
 use mathlib.Core.Bool.{Bool, true, false, not, cond, _&&_, _||_, Bool·beq}
 use mathlib.Core.List.{List, [], _∷_}
-use Prim.Native.Nat.{ℕ, zero, suc, _+_, _-_, _*_}
+use Prim.Native.Nat.{ℕ, zero, suc, _+_, _*_}
 use lib.Dec.{ltb, leb, eqb}
 use lib.ListN.{length, getD, set}
 use lib.Seq.{sets}
 use Rattle.lists.specs.Index.{after}
-use Rattle.lists.specs.Pick.{Test, _when_, first, one-if}
+use Rattle.lists.specs.Pick.{_when_, first, one-if}
 use Rattle.lists.specs.Walk.{hop}
 use Rattle.virtio.specs.declared.Desc.{Desc}
 use Rattle.virtio.specs.declared.Buffer.{Buffer}
@@ -16,10 +16,10 @@ use Rattle.virtio.specs.Layout.{needOne, needTwo, needPool}
 use Rattle.virtio.specs.Chain.{inOrder}
 use Rattle.virtio.specs.Memory.{Memory, avail-flags, used-flags, used-idx, avail-event, spot, loadAt, storeAt}
 use Rattle.virtio.specs.Notify.{byFlags}
-use Rattle.rules.specs.declared.Open.the-variants.{Idle, Add, PopIdx, PeekIdx}
-use Rattle.rules.specs.Record.{Queue, Counts, Tables, nextOf, outstanding, buffersOf, slotAddr, freeCount, isOpen, withCall}
+use Rattle.rules.specs.declared.Open.the-variants.{Add, PopIdx, PeekIdx}
+use Rattle.rules.specs.Record.{Queue, nextOf, outstanding, buffersOf, slotAddr, freeCount, isOpen, withCall}
 use Rattle.rules.specs.WellFormed.{wellFormed, noEmpty}
-use Rattle.rules.specs.Answer.{Outcome, refused, unless, InvalidParam, QueueFull, EmptyBuffer, Busy, BadRecord, BadRegion}
+use Rattle.rules.specs.Answer.{Outcome, unless, InvalidParam, QueueFull, EmptyBuffer, Busy, BadRecord, BadRegion}
 use Rattle.rules.specs.Step.{move}
 
 -- ---- refusals

@@ -2,17 +2,17 @@
 -- give, as numbers, and what 01 says.
 use mathlib.Core.Path.{_≡_, refl}
 use mathlib.Core.Bool.{Bool, true, false, _&&_}
-use mathlib.Core.List.{List, [], _∷_, map}
-use Prim.Native.Nat.{ℕ, zero, suc, _+_, _-_}
+use mathlib.Core.List.{List, [], _∷_}
+use Prim.Native.Nat.{ℕ, zero, suc}
 use lib.ListN.{replicate}
 use Rattle.lists.specs.Pick.{same}
 use Rattle.virtio.specs.declared.Buffer.{Buffer}
 use Rattle.virtio.specs.Memory.{Memory, Place, used-idx, used-id, used-len, avail-idx, avail-event, spot, loadAt, storeAt}
 use Rattle.rules.specs.declared.Modes.{Modes}
-use Rattle.rules.specs.Record.{Queue, Counts, withCounts, freeCount}
+use Rattle.rules.specs.Record.{Queue, withCounts, freeCount}
 use Rattle.rules.specs.Answer.{Outcome}
 use Rattle.rules.specs.Calls.{add, popUsed, shouldNotify}
-use Rattle.rules.specs.New.{Ask, Made, new}
+use Rattle.rules.specs.New.{Made, new}
 use Rattle.rules.specs.Computing.{computing}
 
 -- ---- queues of size 4, flexible, over regions that hold just what they need

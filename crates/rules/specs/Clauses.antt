@@ -1,17 +1,16 @@
 -- The clauses of a well-formed record, tried: for each a record that breaks it, and none before it. One statement over one list.
 use mathlib.Core.Path.{_≡_, refl}
-use mathlib.Core.Bool.{Bool, true, false}
+use mathlib.Core.Bool.{true}
 use mathlib.Core.List.{List, [], _∷_}
 use Prim.Native.Nat.{ℕ}
 use lib.ListN.{set}
 use Rattle.virtio.specs.declared.Desc.{Desc}
-use Rattle.rules.specs.declared.Open.{Open}
 use Rattle.rules.specs.declared.Open.the-variants.{Add, PopIdx, PopStore}
 use Rattle.rules.specs.Record.{Queue, withCounts, withTables, withCall}
 use Rattle.rules.specs.WellFormed.{broken}
 use Rattle.rules.specs.Calls.{openAdd}
 use Rattle.rules.specs.Computing.{computing}
-use Rattle.rules.specs.Cases.{Case, agree, plain, lists, four, made, left, buffer, buffers, adding, add1, list4}
+use Rattle.rules.specs.Cases.{Case, agree, plain, four, made, buffers, adding, add1, list4}
 
 -- ---- records, and changes to them
 

@@ -1,8 +1,8 @@
 -- A well-formed record in plain words, clause by clause (document 01, "The record"). It says what the tests of WellFormed compute.
 use mathlib.Core.Path.{_≡_}
-use mathlib.Core.Bool.{Bool, true, false}
+use mathlib.Core.Bool.{true, false}
 use mathlib.Core.List.{List}
-use Prim.Native.Nat.{ℕ, _+_, _-_, _*_, _%_, _^_, _≤_, _<_}
+use Prim.Native.Nat.{ℕ, _+_, _*_, _%_, _^_, _≤_, _<_}
 use lib.ListN.{length, getD}
 use Rattle.lists.specs.Index.{ahead}
 use Rattle.lists.specs.Pick.{one-if}

@@ -1,19 +1,19 @@
 -- The call new (document 01, "The record", last paragraph, and the orders of "When the queue says no"): its refusals, the fresh record, the
 -- memory cleared and linked, and the three addresses for the transport.
-use mathlib.Core.Bool.{Bool, true, false, not, cond, _&&_, _||_}
+use mathlib.Core.Bool.{Bool, false, not, cond, _&&_, _||_}
 use mathlib.Core.List.{List, [], _∷_, _++_}
 use Prim.Native.Nat.{ℕ, zero, suc, _+_, _-_, _*_}
 use lib.Dec.{ltb, leb, eqb}
 use lib.ListN.{length, replicate}
 use lib.Seq.{sets}
-use Rattle.lists.specs.Pick.{Test, _when_, first}
+use Rattle.lists.specs.Pick.{_when_, first}
 use Rattle.virtio.specs.declared.Desc.{Desc}
 use Rattle.virtio.specs.Desc.{noDesc, noBuffer, putDesc}
 use Rattle.virtio.specs.Layout.{tableSize, availSize, usedSize, availAt, usedAt, needOne, needTwo, needPool}
-use Rattle.virtio.specs.Memory.{Memory, Region, usedRegion, bytesOf, withBytes}
+use Rattle.virtio.specs.Memory.{Memory, usedRegion, bytesOf, withBytes}
 use Rattle.rules.specs.declared.Modes.{Modes}
 use Rattle.rules.specs.declared.Open.the-variants.{Idle}
-use Rattle.rules.specs.Record.{Queue, Counts, Tables}
+use Rattle.rules.specs.Record.{Queue, Counts}
 use Rattle.rules.specs.WellFormed.{sizeOk, baseOk}
 use Rattle.rules.specs.Answer.{InvalidParam, BadSize, AlreadyUsed, BadRegion}
 

@@ -6,13 +6,13 @@ use mathlib.Core.List.{List, [], _∷_}
 use Prim.Native.Nat.{ℕ}
 use lib.ListN.{replicate}
 use Rattle.virtio.specs.declared.Buffer.{Buffer}
-use Rattle.virtio.specs.Memory.{Memory, used-idx, used-id, used-len}
+use Rattle.virtio.specs.Memory.{used-id}
 use Rattle.rules.specs.declared.Open.the-variants.{PeekIdx}
-use Rattle.rules.specs.Record.{Queue, withCounts, withCall}
+use Rattle.rules.specs.Record.{withCounts, withCall}
 use Rattle.rules.specs.Answer.{Outcome}
-use Rattle.rules.specs.Calls.{add, popUsed, peekUsed, canPop, shouldNotify, setDevNotify, availableDesc, step, run}
-use Rattle.rules.specs.New.{Ask, Made, new}
-use Rattle.rules.specs.Owning.{Owning, Owned, ownNew, poll, release}
+use Rattle.rules.specs.Calls.{peekUsed, canPop, shouldNotify, setDevNotify, availableDesc, step, run}
+use Rattle.rules.specs.New.{Ask, new}
+use Rattle.rules.specs.Owning.{Owned, ownNew, poll, release}
 use Rattle.rules.specs.Computing.{computing}
 use Rattle.rules.specs.Cases.{Case, agree, State, plain, four, made, left, stores, gives, buffer, adding, popping, add1, add4, said}
 

@@ -2,11 +2,11 @@
 -- under token i. Its record, when that is well formed, and its calls.
 use mathlib.Core.Bool.{Bool, true, false, not, cond, _&&_, _||_}
 use mathlib.Core.List.{List, [], _∷_}
-use Prim.Native.Nat.{ℕ, zero, suc, _+_, _-_, _*_, _%_}
+use Prim.Native.Nat.{ℕ, zero, suc, _+_, _*_, _%_}
 use lib.Dec.{ltb, leb, eqb}
 use lib.ListN.{length, replicate, take, drop}
 use lib.Seq.{sets}
-use Rattle.lists.specs.Pick.{Test, _when_, first, every, rising, same}
+use Rattle.lists.specs.Pick.{_when_, first, every, rising, same}
 use Rattle.virtio.specs.declared.Buffer.{Buffer}
 use Rattle.virtio.specs.Memory.{Memory, used-idx, used-id, spot, loadAt}
 use Rattle.rules.specs.declared.Held.{Held}

@@ -1,18 +1,18 @@
 -- A step of the open call (document 01, "Step by step"): one access, and the record's reaction to what was loaded. What a step depends on is
 -- read off here: of shared memory only the number that its access loads.
-use mathlib.Core.Bool.{Bool, true, false, not, cond, _&&_}
+use mathlib.Core.Bool.{Bool, false, not, cond}
 use mathlib.Core.List.{List, [], _∷_}
-use Prim.Native.Nat.{ℕ, zero, suc, _+_, _-_, _*_, _/_, _%_}
-use lib.Dec.{ltb, leb, eqb}
+use Prim.Native.Nat.{ℕ, _+_, _-_, _*_, _/_, _%_}
+use lib.Dec.{ltb, eqb}
 use lib.ListN.{getD, set, replicate}
 use lib.Seq.{sets}
 use Rattle.lists.specs.Index.{after}
-use Rattle.lists.specs.Pick.{Test, _when_, first}
+use Rattle.lists.specs.Pick.{_when_, first}
 use Rattle.lists.specs.Walk.{hop}
 use Rattle.virtio.specs.declared.Desc.{Desc}
 use Rattle.virtio.specs.declared.Buffer.{Buffer}
 use Rattle.virtio.specs.Desc.{noDesc, noBuffer, flagsOf}
-use Rattle.virtio.specs.Memory.{Memory, Place, desc, avail-flags, avail-idx, used-event, avail-ring, used-flags, used-idx, avail-event, used-id, used-len, entry, spot, loadAt, storeAt, storeDescAt}
+use Rattle.virtio.specs.Memory.{Memory, Place, desc, avail-idx, used-event, avail-ring, used-idx, used-id, used-len, entry, spot, loadAt, storeAt, storeDescAt}
 use Rattle.rules.specs.declared.Open.{Open}
 use Rattle.rules.specs.declared.Open.the-variants.{Idle, Add, PopIdx, PopId, PopLen, PopStore, PeekIdx, PeekId}
 use Rattle.rules.specs.Record.{Queue, Counts, Tables, descOf, nextOf, notedOf, outstanding, chainOf, lastOf, isIndirect, entriesOf, sizeOf, withCall, withAvail}

@@ -1,11 +1,11 @@
 -- When a record is well formed (document 01, "The record"): ten clauses in 01's order, each a test that computes, and the number of the first
 -- that is broken.
-use mathlib.Core.Bool.{Bool, true, false, not, cond, _&&_, _||_}
+use mathlib.Core.Bool.{Bool, true, not, cond, _&&_, _||_}
 use mathlib.Core.List.{List, [], _∷_, _++_}
-use Prim.Native.Nat.{ℕ, zero, suc, _+_, _-_, _*_, _%_, _^_}
+use Prim.Native.Nat.{ℕ, zero, suc, _+_, _*_, _%_, _^_}
 use lib.Dec.{ltb, leb, eqb}
 use Rattle.lists.specs.Index.{ahead}
-use Rattle.lists.specs.Pick.{Test, _when_, first, every, tally, one-if}
+use Rattle.lists.specs.Pick.{_when_, first, every, tally, one-if}
 use Rattle.lists.specs.Once.{mem, onceEach}
 use Rattle.virtio.specs.declared.Buffer.{Buffer}
 use Rattle.virtio.specs.Desc.{hasNext}
@@ -13,7 +13,7 @@ use Rattle.virtio.specs.Layout.{needPool}
 use Rattle.virtio.specs.Chain.{inOrder}
 use Rattle.rules.specs.declared.Open.{Open}
 use Rattle.rules.specs.declared.Open.the-variants.{Idle, Add, PopIdx, PopId, PopLen, PopStore, PeekIdx, PeekId}
-use Rattle.rules.specs.Record.{Queue, descOf, nextOf, notedOf, outstanding, freeCount, freeList, chainOf, isIndirect, slotAddr, entriesOf, sizeOf, buffersOf, isOpen, isAdd}
+use Rattle.rules.specs.Record.{Queue, descOf, nextOf, notedOf, outstanding, freeCount, freeList, chainOf, isIndirect, slotAddr, entriesOf, sizeOf, buffersOf, isAdd}
 
 -- a size that is allowed: a power of two, 1 to 64 (01, part 1)
 unfoldable pub sizeOk : ℕ → Bool

@@ -1,17 +1,17 @@
 -- Document 01's worked replay, and what its calls leave in memory, tried: the example's answers, steps and free descriptors, descriptor 0's sixteen
 -- bytes, and that the device reads what was published, direct and indirect, as the list given. One statement over one list.
 use mathlib.Core.Path.{_≡_, refl}
-use mathlib.Core.Bool.{Bool, true, false}
+use mathlib.Core.Bool.{true, false}
 use mathlib.Core.List.{List, [], _∷_}
 use Prim.Native.Nat.{ℕ}
 use lib.ListN.{take, drop}
 use Rattle.lists.specs.Pick.{one-if}
 use Rattle.virtio.specs.declared.Buffer.{Buffer}
 use Rattle.virtio.specs.Chain.{Meaning, broken, buffers, chainAt}
-use Rattle.rules.specs.Record.{Queue, freeCount}
+use Rattle.rules.specs.Record.{freeCount}
 use Rattle.rules.specs.Answer.{Outcome}
 use Rattle.rules.specs.Calls.{sameList, run, openAdd}
-use Rattle.rules.specs.Owning.{View, no-view, part, shown, Owned, ownNew, poll}
+use Rattle.rules.specs.Owning.{shown, Owned, ownNew, poll}
 use Rattle.rules.specs.Computing.{computing}
 use Rattle.rules.specs.Cases.{Case, agree, State, plain, lists, four, made, left, gives, adding, popping}
 

@@ -1,6 +1,6 @@
 -- What a chain at a head means to a device: its buffers in order, or that the driver broke a rule (VIRTIO 1.1: 2.6.4 message framing,
 -- 2.6.5 the descriptor table, 2.6.5.3 indirect descriptors). Not tested: the limit of 2^32 bytes a chain.
-use mathlib.Core.Bool.{Bool, true, false, cond, not, _&&_}
+use mathlib.Core.Bool.{Bool, true, cond, not, _&&_}
 use mathlib.Core.List.{List, [], _∷_, map}
 use Prim.Native.Nat.{ℕ, zero, suc, _+_, _-_, _*_, _/_, _%_}
 use lib.Dec.{ltb, leb, eqb}

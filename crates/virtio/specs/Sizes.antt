@@ -3,9 +3,9 @@
 use mathlib.Core.Path.{_≡_, refl}
 use mathlib.Core.Bool.{Bool, true, false, true≢false, false≢true}
 use mathlib.Core.Logic.{_⊎_, inl, inr}
-use Prim.Native.Nat.{ℕ, _+_, _*_, _%_, _≤_, _<_}
+use Prim.Native.Nat.{ℕ, _+_, _*_, _%_, _^_, _≤_, _<_}
 use native.Mathlib.Omega.{arith}
-use Rattle.virtio.specs.Layout.{tableSize, availSize, usedSize, tableAlign, availAlign, usedAlign, page, pageUp, availAt, usedAt, needOne, needTwo, needPool}
+use Rattle.virtio.specs.Layout.{tableSize, availSize, usedSize, availAlign, usedAlign, page, pageUp, availAt, usedAt, needOne, needTwo, needPool}
 use Rattle.virtio.specs.Memory.{Region, in-one, in-two, in-pool, Place, desc, avail-flags, avail-idx, used-event, avail-ring, used-flags, used-idx, avail-event, used-id, used-len, entry, Spot, usedRegion, spot}
 use Rattle.virtio.specs.Device.{deviceWrites}
 
@@ -29,6 +29,19 @@ legacy-apart n = omega arith
 pub legacy-inside : (n : ℕ) → usedAt true n + usedSize n ≤ needOne true n
 unfolding usedAt needOne
 legacy-inside n = omega arith
+
+-- In either layout the used ring ends inside what the region that holds it needs, and in either the numbers are small.
+pub used-in-one : (legacy : Bool) (n : ℕ) → legacy ≡ true → usedAt legacy n + usedSize n ≤ needOne legacy n
+used-in-one legacy n e = rw e (legacy-inside n)
+
+pub used-in-two : (legacy : Bool) (n : ℕ) → legacy ≡ false → usedAt legacy n + usedSize n ≤ needTwo legacy n
+unfolding usedAt needTwo
+used-in-two legacy n e = rw e (omega arith)
+
+pub used-small : (legacy : Bool) (n : ℕ) → n < 2 ^ 16 → usedAt legacy n + usedSize n < 2 ^ 32
+unfolding usedAt
+used-small true n h = omega arith
+used-small false n h = omega arith
 
 pub legacy-pages : (n : ℕ) → needOne true n % page ≡ 0
 unfolding needOne
@@ -96,9 +109,8 @@ used-fields legacy n avail-event h e = (refl, omega arith, omega arith)
 used-fields legacy n (entry j) h e = absurd (false≢true e)
 
 inUsed : (legacy : Bool) (n a w : ℕ) → a + w ≤ usedSize n → usedAt legacy n + a + w ≤ need legacy n (usedRegion legacy)
-unfolding usedAt needTwo
-inUsed true n a w h = let f = legacy-inside n in omega arith
-inUsed false n a w h = omega arith
+inUsed true n a w h = let f = used-in-one true n refl in omega arith
+inUsed false n a w h = let f = used-in-two false n refl in omega arith
 
 -- Each field lies inside what its region needs.
 pub inside : (legacy : Bool) (n : ℕ) (p : Place) → Has n p → spot legacy n p .offset + spot legacy n p .width ≤ need legacy n (spot legacy n p .region)

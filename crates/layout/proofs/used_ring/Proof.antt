@@ -5,7 +5,7 @@ use Prim.Native.Nat.{ℕ, _+_, _-_}
 use native.Mathlib.Omega.{arith}
 use borrow.Author.Needs.{needs}
 use Rattle.virtio.specs.Layout.{usedSize}
-use Rattle.layout.proofs.Ends.{small, in-one, in-two}
+use Rattle.virtio.specs.Sizes.{used-small, used-in-one, used-in-two}
 use Rattle.layout.proofs.used_ring.Statement.{statement}
 use Rattle.layout.proofs.used_ring.Tie as tie
 
@@ -18,7 +18,7 @@ used-size-requires c κs = search needs
 add-to : tie.Need-add-to
 add-to c =
     let a = c .before .before .before .before .args in
-    omega (arith, small (a .legacy) (a .n) (omega arith))
+    omega (arith, used-small (a .legacy) (a .n) (omega arith))
 
 sub-result : tie.Need-sub-result
 sub-result c = search needs
@@ -29,7 +29,7 @@ part-result-start c = search needs
 part-result-end : tie.Need-part-result-end
 part-result-end c =
     let a = c .before .before .before .before .before .args in
-    omega (arith, in-one (a .legacy) (a .n) (c .if1 .taken))
+    omega (arith, used-in-one (a .legacy) (a .n) (c .if1 .taken))
 
 sub-result-2 : tie.Need-sub-result-2
 sub-result-2 c = search needs
@@ -40,7 +40,7 @@ part-result-start-2 c = search needs
 part-result-end-2 : tie.Need-part-result-end-2
 part-result-end-2 c =
     let a = c .before .before .before .before .before .args in
-    omega (arith, in-two (a .legacy) (a .n) (c .if1 .left))
+    omega (arith, used-in-two (a .legacy) (a .n) (c .if1 .left))
 
 returns : tie.Need-returns
 returns c =
