@@ -5,6 +5,7 @@
 --   Pick      the first of a list of tests that holds; a test at each of a run of numbers; a run of a list's entries
 --   Walk      the numbers along links
 --   Once      a list that names each of 0..n-1 once: the computed test, and its plain meaning
+--   Visit     the same test, as nested loops make it that mark the names they meet
 --   PickLaws  laws of Pick's definitions
 pub mod Index
 pub mod Bytes
@@ -12,4 +13,5 @@ pub mod Tests
 pub mod Pick
 pub mod Walk
 pub mod Once
+pub mod Visit
 pub mod PickLaws

@@ -52,7 +52,7 @@ all-below n [] e = tt
 all-below n (x ∷ xs) e =
     (ltb-true x n (and-left (ltb x n) (allBelow n xs) e), all-below n xs (and-right (ltb x n) (allBelow n xs) e))
 
-below-all : (n : ℕ) (xs : List ℕ) → Below n xs → allBelow n xs ≡ true
+pub below-all : (n : ℕ) (xs : List ℕ) → Below n xs → allBelow n xs ≡ true
 unfolding allBelow
 below-all n [] b = refl
 below-all n (x ∷ xs) b = rw (lt-ltb x n (b .0)) (below-all n xs (b .1))

@@ -1,9 +1,10 @@
 -- Walks along links: `next` gives the number that each number links to.
 use mathlib.Core.Path.{_≡_, refl, ap}
-use mathlib.Core.List.{List, [], _∷_}
-use Prim.Native.Nat.{ℕ, zero, suc, _<_}
+use mathlib.Core.List.{List, [], _∷_, _++_}
+use Prim.Native.Nat.{ℕ, zero, suc, _+_, _≤_, _<_}
+use native.Mathlib.Omega.{arith}
 use lib.ListN.{length}
-use Rattle.lists.specs.Once.{Below}
+use Rattle.lists.specs.Once.{Below, below-append}
 
 module _ (next : ℕ → ℕ) where
   -- the number k links on from i
@@ -32,3 +33,16 @@ module _ (next : ℕ → ℕ) where
   unfolding walk
   walk-below n h zero i l = tt
   walk-below n h (suc k) i l = (l, walk-below n h k (next i) (h i l))
+
+-- The walks of the m numbers from h on, one after the other: that of h is as long as `size` says.
+module _ (next size : ℕ → ℕ) where
+  unfoldable pub walks : ℕ → ℕ → List ℕ
+  walks zero h = []
+  walks (suc m) h = walk next (size h) h ++ walks m (suc h)
+
+  pub walks-below : (n : ℕ) → ((i : ℕ) → i < n → next i < n) → (m h : ℕ) → m + h ≤ n → Below n (walks m h)
+  unfolding walks
+  walks-below n b zero h l = tt
+  walks-below n b (suc m) h l =
+      below-append n (walk next (size h) h) (walks m (suc h)) (walk-below next n b (size h) h (omega arith))
+      (walks-below n b m (suc h) (omega arith))

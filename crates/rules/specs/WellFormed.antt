@@ -6,6 +6,7 @@ use Prim.Native.Nat.{ℕ, zero, suc, _+_, _*_, _%_, _^_}
 use lib.Dec.{ltb, leb, eqb}
 use Rattle.lists.specs.Index.{ahead}
 use Rattle.lists.specs.Pick.{_when_, first, every, tally, one-if}
+use Rattle.lists.specs.Walk.{walks}
 use Rattle.lists.specs.Once.{mem, onceEach}
 use Rattle.virtio.specs.declared.Buffer.{Buffer}
 use Rattle.virtio.specs.Desc.{hasNext}
@@ -13,7 +14,7 @@ use Rattle.virtio.specs.Layout.{needPool}
 use Rattle.virtio.specs.Chain.{inOrder}
 use Rattle.rules.specs.declared.Open.{Open}
 use Rattle.rules.specs.declared.Open.the-variants.{Idle, Add, PopIdx, PopId, PopLen, PopStore, PeekIdx, PeekId}
-use Rattle.rules.specs.Record.{Queue, descOf, nextOf, notedOf, outstanding, freeCount, freeList, chainOf, isIndirect, slotAddr, entriesOf, sizeOf, buffersOf, isAdd}
+use Rattle.rules.specs.Record.{Queue, descOf, nextOf, notedOf, outstanding, freeCount, freeList, isIndirect, slotAddr, entriesOf, sizeOf, buffersOf, isAdd}
 
 -- a size that is allowed: a power of two, 1 to 64 (01, part 1)
 unfoldable pub sizeOk : ℕ → Bool
@@ -29,14 +30,9 @@ noEmpty [] = true
 noEmpty (b ∷ bs) = not (eqb (b .len) 0) && noEmpty bs
 
 module _ (q : Queue) where
-  -- the chains of the m heads from h on, one after the other; a number that heads none has an empty one
-  unfoldable pub chainsFrom : ℕ → ℕ → List ℕ
-  chainsFrom zero h = []
-  chainsFrom (suc m) h = chainOf q h ++ chainsFrom m (suc h)
-
-  -- all descriptors that are named: the free ones, and those of the outstanding chains
+  -- all descriptors that are named: the free ones, and those of each head's chain (a number that heads none has an empty one)
   abbrev pub named : List ℕ
-  named = freeList q ++ chainsFrom (q .n) 0
+  named = freeList q ++ walks (nextOf q) (notedOf q) (q .n) 0
 
   -- of the k descriptors from i on each has NEXT but the last
   unfoldable pub linked : ℕ → ℕ → Bool

@@ -1,0 +1,163 @@
+-- Names met one by one and marked: the bridge from `onceEach` to nested loops over walks that stop at the first repeat. What is still to be answered
+-- is told by the names that are still to come, so that a loop's invariant says nothing of those passed.
+use mathlib.Core.Path.{_≡_, refl, sym, ap, _∙_}
+use mathlib.Core.List.{List, [], _∷_, _++_}
+use mathlib.Core.Bool.{Bool, true, false, not, _&&_, _||_, and-true, and-false}
+use Prim.Native.Nat.{ℕ, zero, suc, _+_, _-_, _≤_, _<_}
+use native.Mathlib.Omega.{arith}
+use native.Mathlib.Nat.{sub-zero}
+use native.Mathlib.Numerals.{add-one}
+use borrow.Author.Tests.{eqb-true, eqb-false}
+use lib.Dec.{eqb, eqb·suc-suc, eqb·suc-zero, eqb·zero-suc}
+use lib.ListN.{length, getD, set, length-set, replicate, getD-replicate}
+use lib.Seq.{getD-set-same, getD-set-other}
+use Rattle.lists.specs.Once.{mem, noDup, allBelow, onceEach, Below, below-all}
+use Rattle.lists.specs.Walk.{walk, walks}
+
+-- each name is not marked yet, and is marked; and as many are met as were left
+unfoldable pub visit : List Bool → ℕ → List ℕ → Bool
+visit seen left [] = eqb left 0
+visit seen zero (x ∷ xs) = false
+visit seen (suc left) (x ∷ xs) = not (getD seen x false) && visit (set seen x true) left xs
+
+visit-none : (seen : List Bool) (left x : ℕ) (xs : List ℕ) → left ≡ 0 → visit seen left (x ∷ xs) ≡ false
+unfolding visit
+visit-none seen left x xs e = rw (e, visit)
+
+visit-seen : (seen : List Bool) (left x : ℕ) (xs : List ℕ) → getD seen x false ≡ true → visit seen left (x ∷ xs) ≡ false
+unfolding visit
+visit-seen seen zero x xs h = refl
+visit-seen seen (suc left) x xs h = rw h
+
+visit-next : (seen : List Bool) (left x : ℕ) (xs : List ℕ) → 0 < left → getD seen x false ≡ false
+    → visit seen left (x ∷ xs) ≡ visit (set seen x true) (left - 1) xs
+unfolding visit
+visit-next seen zero x xs p h = absurd (omega arith)
+visit-next seen (suc left) x xs p h = rw h (ap (λ n. visit (set seen x true) n xs) (omega arith))
+
+-- ---- nested loops over walks
+
+module _ (next size : ℕ → ℕ) (n : ℕ) where
+  walk-next : (k i : ℕ) → 0 < k → walk next k i ≡ i ∷ walk next (k - 1) (next i)
+  unfolding walk
+  walk-next zero i p = absurd (omega arith)
+  walk-next (suc k) i p =
+      let e : k ≡ suc k - 1 = omega arith in
+      ap (λ m. i ∷ walk next m (next i)) e
+
+  -- what is still to be answered: on the first walk, with k to go from i; at head h; in the walk of head h, with m to go from j
+  unfoldable pub firstRest : List Bool → ℕ → ℕ → ℕ → Bool
+  firstRest seen left k i = visit seen left (walk next k i ++ walks next size n 0)
+
+  unfoldable pub headsRest : List Bool → ℕ → ℕ → Bool
+  headsRest seen left h = visit seen left (walks next size (n - h) h)
+
+  unfoldable pub linkRest : List Bool → ℕ → ℕ → ℕ → ℕ → Bool
+  linkRest seen left h m j = visit seen left (walk next m j ++ walks next size (n - (h + 1)) (h + 1))
+
+  module _ (seen : List Bool) (left : ℕ) where
+    pub first-done : (k i : ℕ) → k ≡ 0 → firstRest seen left k i ≡ headsRest seen left 0
+    unfolding firstRest headsRest walk
+    first-done k i e = rw (e, walk, sub-zero)
+
+    module _ (k i : ℕ) (p : 0 < k) where
+      pub first-none : left ≡ 0 → firstRest seen left k i ≡ false
+      unfolding firstRest
+      first-none e = rw (walk-next k i p, visit-none seen left i _ e)
+
+      pub first-seen : getD seen i false ≡ true → firstRest seen left k i ≡ false
+      unfolding firstRest
+      first-seen h = rw (walk-next k i p, visit-seen seen left i _ h)
+
+      pub first-next : 0 < left → getD seen i false ≡ false → firstRest seen left k i ≡ firstRest (set seen i true) (left - 1) (k - 1) (next i)
+      unfolding firstRest
+      first-next l h = rw (walk-next k i p, visit-next seen left i _ l h)
+
+    module _ (h : ℕ) where
+      pub heads-enter : h < n → headsRest seen left h ≡ linkRest seen left h (size h) h
+      unfolding headsRest linkRest walks
+      heads-enter l =
+          let e : n - h ≡ suc (n - suc h) = omega arith in
+          rw (e, walks, add-one)
+
+      pub heads-done : n ≤ h → headsRest seen left h ≡ eqb left 0
+      unfolding headsRest walks visit
+      heads-done l =
+          let e : n - h ≡ 0 = omega arith in
+          rw (e, walks)
+
+      pub link-done : (m j : ℕ) → m ≡ 0 → linkRest seen left h m j ≡ headsRest seen left (h + 1)
+      unfolding linkRest headsRest walk
+      link-done m j e = rw (e, walk)
+
+      module _ (m j : ℕ) (p : 0 < m) where
+        pub link-none : left ≡ 0 → linkRest seen left h m j ≡ false
+        unfolding linkRest
+        link-none e = rw (walk-next m j p, visit-none seen left j _ e)
+
+        pub link-seen : getD seen j false ≡ true → linkRest seen left h m j ≡ false
+        unfolding linkRest
+        link-seen e = rw (walk-next m j p, visit-seen seen left j _ e)
+
+        pub link-next : 0 < left → getD seen j false ≡ false → linkRest seen left h m j ≡ linkRest (set seen j true) (left - 1) h (m - 1) (next j)
+        unfolding linkRest
+        link-next l e = rw (walk-next m j p, visit-next seen left j _ l e)
+
+-- ---- that is what `onceEach` says
+
+-- none of the list is marked
+clear : List Bool → List ℕ → Bool
+clear seen [] = true
+clear seen (x ∷ xs) = not (getD seen x false) && clear seen xs
+
+swap : (a b c : Bool) → (a && (b && c)) ≡ (b && (a && c))
+swap true b c = refl
+swap false true c = refl
+swap false false c = refl
+
+shuffle : (m a c d e : Bool) → (m && (((a && c) && d) && e)) ≡ (((m && c) && (a && d)) && e)
+shuffle false a c d e = refl
+shuffle true true c d e = refl
+shuffle true false true d e = refl
+shuffle true false false d e = refl
+
+clear-set : (seen : List Bool) (x : ℕ) (xs : List ℕ) → x < length seen → clear (set seen x true) xs ≡ (not (mem x xs) && clear seen xs)
+unfolding clear mem
+clear-set seen x [] h = refl
+clear-set seen x (y ∷ ys) h = go (eqb x y) refl (clear-set seen x ys h)
+  where
+    go : (b : Bool) → eqb x y ≡ b → clear (set seen x true) ys ≡ (not (mem x ys) && clear seen ys)
+        → (not (getD (set seen x true) y false) && clear (set seen x true) ys) ≡ (not (eqb x y || mem x ys) && (not (getD seen y false) && clear seen ys))
+    go true e ih =
+        let same : getD (set seen x true) y false ≡ true = ap (λ z. getD (set seen x true) z false) (sym (eqb-true x y e)) ∙ getD-set-same seen x true false h in
+        rw (same, e)
+    go false e ih =
+        rw (getD-set-other seen x y true false (λ f. eqb-false x y e (sym f)), e, ih) (swap (not (getD seen y false)) (not (mem x ys)) (clear seen ys))
+
+visit-is : (xs : List ℕ) (seen : List Bool) (left : ℕ) → Below (length seen) xs → visit seen left xs ≡ ((clear seen xs && noDup xs) && eqb (length xs) left)
+unfolding visit clear noDup
+visit-is [] seen zero b = refl
+visit-is [] seen (suc left) b = eqb·suc-zero left ∙ sym (eqb·zero-suc left)
+visit-is (x ∷ xs) seen zero b = rw (eqb·suc-zero (length xs)) (sym (and-false (clear seen (x ∷ xs) && noDup (x ∷ xs))))
+visit-is (x ∷ xs) seen (suc left) b =
+    let b′ : Below (length (set seen x true)) xs = rw (length-set seen x true) (b .1) in
+    rw (visit-is xs (set seen x true) left b′, clear-set seen x xs (b .0), eqb·suc-suc (length xs) left)
+    (shuffle (not (getD seen x false)) (not (mem x xs)) (clear seen xs) (noDup xs) (eqb (length xs) left))
+
+clear-none : (n : ℕ) (xs : List ℕ) → Below n xs → clear (replicate n false) xs ≡ true
+unfolding clear
+clear-none n [] b = refl
+clear-none n (x ∷ xs) b = rw (getD-replicate {A = Bool} n x false false (b .0), clear-none n xs (b .1))
+
+below-more : (n m : ℕ) (xs : List ℕ) → n ≤ m → Below n xs → Below m xs
+below-more n m [] h a = tt
+below-more n m (x ∷ xs) h a = (let p = a .0 in omega arith, below-more n m xs h (a .1))
+
+-- THE LAW: with as many marks as there are numbers, or more, none of them set
+pub once-visit : (room n : ℕ) (xs : List ℕ) → n ≤ room → Below n xs → onceEach n xs ≡ visit (replicate room false) n xs
+unfolding onceEach
+once-visit room n xs h b =
+    let w : Below room xs = below-more n room xs h b in
+    let v : Below (length (replicate {A = Bool} room false)) xs = rw (lib.ListN.length-replicate {A = Bool} room false) w in
+    rw (visit-is xs (replicate room false) n v, clear-none room xs w, below-all n xs b)
+    (ap (λ t. noDup xs && t) (and-true (eqb (length xs) n)))
