@@ -9,9 +9,9 @@ use lib.Dec.{ltb, leb, eqb}
 use lib.ListN.{length, getD}
 use Rattle.lists.specs.Index.{ahead}
 use Rattle.lists.specs.Pick.{Test, _when_, every, one-if}
-use Rattle.lists.specs.Walk.{hop}
+use Rattle.lists.specs.Walk.{hop, ending, ending-goes-on, ending-stops, goes-on-ending}
 use Rattle.lists.specs.Once.{mem, once-true, true-once}
-use Rattle.lists.specs.Tests.{by-test, and-left, and-right, and-both, and-six, implied, implies, false-not}
+use Rattle.lists.specs.Tests.{by-test, and-left, and-right, and-both, and-six, implied, implies}
 use Rattle.lists.specs.PickLaws.{every-true, true-every, Numbered, NoneOf, first-none, mem-all}
 use Rattle.virtio.specs.declared.Buffer.{Buffer}
 use Rattle.virtio.specs.Desc.{noBuffer, hasNext}
@@ -20,7 +20,7 @@ use Rattle.virtio.specs.Chain.{allOutputs, inOrder}
 use Rattle.rules.specs.declared.Open.{Open}
 use Rattle.rules.specs.declared.Open.the-variants.{Idle, Add, PopIdx, PopId, PopLen, PopStore, PeekIdx, PeekId}
 use Rattle.rules.specs.Record.{Queue, descOf, nextOf, notedOf, outstanding, freeCount, lastOf, isIndirect, slotAddr, entriesOf, buffersOf, isAdd}
-use Rattle.rules.specs.WellFormed.{sizeOk, baseOk, noEmpty, named, linked, indirectHead, outCount, addSteps, storeSteps, callOk, everyHead, broken, wellFormed}
+use Rattle.rules.specs.WellFormed.{sizeOk, baseOk, noEmpty, named, indirectHead, outCount, addSteps, storeSteps, callOk, everyHead, broken, wellFormed}
 use Rattle.rules.specs.WellFormed.{size-clause, base-clause, used-clause, next-clause, once-clause, end-clause, indirect-clause, buffer-clause, count-clause, call-clause}
 use Rattle.rules.specs.Meaning.{WellFormed, Out, Based, Listed, Sound, Named}
 
@@ -127,54 +127,32 @@ module _ (q : Queue) where
 
   -- ---- 5 is lists.Once; 6: where chains go on and stop
 
-  -- `linked`: each of the descriptors has NEXT but the last
-  pub linked-goes-on : (k h : ℕ) → linked q k h ≡ true → (i : ℕ) → i + 1 < k → hasNext (descOf q (hop (nextOf q) i h)) ≡ true
-  unfolding linked hop
-  linked-goes-on zero h e i l = absurd (omega arith)
-  linked-goes-on (suc zero) h e i l = absurd (omega arith)
-  linked-goes-on (suc (suc k)) h e zero l = and-left (hasNext (descOf q h)) (linked q (suc k) (nextOf q h)) e
-  linked-goes-on (suc (suc k)) h e (suc i) l =
-      linked-goes-on (suc k) (nextOf q h) (and-right (hasNext (descOf q h)) (linked q (suc k) (nextOf q h)) e) i (omega arith)
-
-  pub linked-stops : (k h : ℕ) → linked q (suc k) h ≡ true → hasNext (descOf q (hop (nextOf q) k h)) ≡ false
-  unfolding linked hop
-  linked-stops zero h e = not-true (hasNext (descOf q h)) e
-  linked-stops (suc k) h e =
-      linked-stops k (nextOf q h) (and-right (hasNext (descOf q h)) (linked q (suc k) (nextOf q h)) e)
-
-  pub means-linked
-      : (k h : ℕ)
-      → ((i : ℕ) → i < k → hasNext (descOf q (hop (nextOf q) i h)) ≡ true)
-      → hasNext (descOf q (hop (nextOf q) k h)) ≡ false
-      → linked q (suc k) h ≡ true
-  unfolding linked hop
-  means-linked zero h f e = false-not (hasNext (descOf q h)) e
-  means-linked (suc k) h f e =
-      and-both (hasNext (descOf q h)) (linked q (suc k) (nextOf q h)) (f 0 (omega arith))
-      (means-linked k (nextOf q h) (λ i l. f (suc i) (omega arith)) e)
+  -- the chain of k descriptors at h has NEXT on all but its last
+  abbrev ends-at : ℕ → ℕ → Bool
+  ends-at k h = ending (λ i. hasNext (descOf q i)) (nextOf q) k h
 
   -- so at each outstanding head, for its noted length
   goes-on-means : end-clause q ≡ true → (h i : ℕ) → Out q h → i + 1 < notedOf q h → hasNext (descOf q (hop (nextOf q) i h)) ≡ true
-  goes-on-means e h i o l = linked-goes-on (notedOf q h) h (head-means (λ j. linked q (notedOf q j) j) e h o) i l
+  goes-on-means e h i o l = ending-goes-on (λ j. hasNext (descOf q j)) (nextOf q) (notedOf q h) h (head-means (λ j. ends-at (notedOf q j) j) e h o) i l
 
   stops-means : end-clause q ≡ true → (h : ℕ) → Out q h → hasNext (descOf q (lastOf q h)) ≡ false
   stops-means e h o =
-      let t : linked q (notedOf q h) h ≡ true = head-means (λ j. linked q (notedOf q j) j) e h o in
+      let t : ends-at (notedOf q h) h ≡ true = head-means (λ j. ends-at (notedOf q j) j) e h o in
       let n : (notedOf q h ≡ 0 → ⊥) = o .noted in
       let s : notedOf q h ≡ suc (notedOf q h - 1) = omega arith in
-      linked-stops (notedOf q h - 1) h (ap (λ k. linked q k h) (sym s) ∙ t)
+      ending-stops (λ j. hasNext (descOf q j)) (nextOf q) (notedOf q h - 1) h (ap (λ k. ends-at k h) (sym s) ∙ t)
 
   means-end
       : ((h i : ℕ) → Out q h → i + 1 < notedOf q h → hasNext (descOf q (hop (nextOf q) i h)) ≡ true)
       → ((h : ℕ) → Out q h → hasNext (descOf q (lastOf q h)) ≡ false)
       → end-clause q ≡ true
-  means-end f g = means-head (λ j. linked q (notedOf q j) j) each
+  means-end f g = means-head (λ j. ends-at (notedOf q j) j) each
     where
-      each : (h : ℕ) → Out q h → linked q (notedOf q h) h ≡ true
+      each : (h : ℕ) → Out q h → ends-at (notedOf q h) h ≡ true
       each h o =
           let n : (notedOf q h ≡ 0 → ⊥) = o .noted in
           let s : notedOf q h ≡ suc (notedOf q h - 1) = omega arith in
-          ap (λ k. linked q k h) s ∙ means-linked (notedOf q h - 1) h (λ i l. f h i o (omega arith)) (g h o)
+          ap (λ k. ends-at k h) s ∙ goes-on-ending (λ j. hasNext (descOf q j)) (nextOf q) (notedOf q h - 1) h (λ i l. f h i o (omega arith)) (g h o)
 
   -- ---- 7: the heads with INDIRECT
 

@@ -11,7 +11,7 @@ use borrow.Author.Tests.{eqb-true, eqb-false}
 use lib.Dec.{eqb, eqb·suc-suc, eqb·suc-zero, eqb·zero-suc}
 use lib.ListN.{length, getD, set, length-set, replicate, getD-replicate}
 use lib.Seq.{getD-set-same, getD-set-other}
-use Rattle.lists.specs.Once.{mem, noDup, allBelow, onceEach, Below, below-all}
+use Rattle.lists.specs.Once.{mem, noDup, onceEach, Below, below-all}
 use Rattle.lists.specs.Walk.{walk, walks}
 
 -- each name is not marked yet, and is marked; and as many are met as were left

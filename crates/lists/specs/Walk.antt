@@ -1,9 +1,12 @@
 -- Walks along links: `next` gives the number that each number links to.
 use mathlib.Core.Path.{_≡_, refl, ap}
+use mathlib.Core.Bool.{Bool, true, false, not, _&&_}
 use mathlib.Core.List.{List, [], _∷_, _++_}
 use Prim.Native.Nat.{ℕ, zero, suc, _+_, _≤_, _<_}
 use native.Mathlib.Omega.{arith}
+use borrow.Author.Tests.{not-true}
 use lib.ListN.{length}
+use Rattle.lists.specs.Tests.{and-left, and-right, and-both, false-not}
 use Rattle.lists.specs.Once.{Below, below-append}
 
 module _ (next : ℕ → ℕ) where
@@ -33,6 +36,33 @@ module _ (next : ℕ → ℕ) where
   unfolding walk
   walk-below n h zero i l = tt
   walk-below n h (suc k) i l = (l, walk-below n h k (next i) (h i l))
+
+-- Of the k numbers from i on `goes` holds at each but the last: a walk that ends where it says it ends.
+unfoldable pub ending : (ℕ → Bool) → (ℕ → ℕ) → ℕ → ℕ → Bool
+ending goes next zero i = true
+ending goes next (suc zero) i = not (goes i)
+ending goes next (suc (suc k)) i = goes i && ending goes next (suc k) (next i)
+
+module _ (goes : ℕ → Bool) (next : ℕ → ℕ) where
+  pub ending-goes-on : (k h : ℕ) → ending goes next k h ≡ true → (i : ℕ) → i + 1 < k → goes (hop next i h) ≡ true
+  unfolding ending hop
+  ending-goes-on zero h e i l = absurd (omega arith)
+  ending-goes-on (suc zero) h e i l = absurd (omega arith)
+  ending-goes-on (suc (suc k)) h e zero l = and-left (goes h) (ending goes next (suc k) (next h)) e
+  ending-goes-on (suc (suc k)) h e (suc i) l =
+      ending-goes-on (suc k) (next h) (and-right (goes h) (ending goes next (suc k) (next h)) e) i (omega arith)
+
+  pub ending-stops : (k h : ℕ) → ending goes next (suc k) h ≡ true → goes (hop next k h) ≡ false
+  unfolding ending hop
+  ending-stops zero h e = not-true (goes h) e
+  ending-stops (suc k) h e = ending-stops k (next h) (and-right (goes h) (ending goes next (suc k) (next h)) e)
+
+  pub goes-on-ending : (k h : ℕ) → ((i : ℕ) → i < k → goes (hop next i h) ≡ true) → goes (hop next k h) ≡ false → ending goes next (suc k) h ≡ true
+  unfolding ending hop
+  goes-on-ending zero h f e = false-not (goes h) e
+  goes-on-ending (suc k) h f e =
+      and-both (goes h) (ending goes next (suc k) (next h)) (f 0 (omega arith))
+      (goes-on-ending k (next h) (λ i l. f (suc i) (omega arith)) e)
 
 -- The walks of the m numbers from h on, one after the other: that of h is as long as `size` says.
 module _ (next size : ℕ → ℕ) where

@@ -2,19 +2,20 @@
 -- that is broken.
 use mathlib.Core.Bool.{Bool, true, not, cond, _&&_, _||_}
 use mathlib.Core.List.{List, [], _∷_, _++_}
-use Prim.Native.Nat.{ℕ, zero, suc, _+_, _*_, _%_, _^_}
+use Prim.Native.Nat.{ℕ, _+_, _*_, _/_, _%_, _^_}
 use lib.Dec.{ltb, leb, eqb}
 use Rattle.lists.specs.Index.{ahead}
 use Rattle.lists.specs.Pick.{_when_, first, every, tally, one-if}
-use Rattle.lists.specs.Walk.{walks}
+use Rattle.lists.specs.Walk.{walks, ending}
 use Rattle.lists.specs.Once.{mem, onceEach}
+use Rattle.virtio.specs.declared.Desc.{Desc}
 use Rattle.virtio.specs.declared.Buffer.{Buffer}
 use Rattle.virtio.specs.Desc.{hasNext}
 use Rattle.virtio.specs.Layout.{needPool}
 use Rattle.virtio.specs.Chain.{inOrder}
 use Rattle.rules.specs.declared.Open.{Open}
 use Rattle.rules.specs.declared.Open.the-variants.{Idle, Add, PopIdx, PopId, PopLen, PopStore, PeekIdx, PeekId}
-use Rattle.rules.specs.Record.{Queue, descOf, nextOf, notedOf, outstanding, freeCount, freeList, isIndirect, slotAddr, entriesOf, sizeOf, buffersOf, isAdd}
+use Rattle.rules.specs.Record.{Queue, descOf, nextOf, notedOf, outstanding, freeCount, freeList, isIndirect, slotAddr, sizeOf, buffersOf, isAdd}
 
 -- a size that is allowed: a power of two, 1 to 64 (01, part 1)
 unfoldable pub sizeOk : ℕ → Bool
@@ -29,24 +30,26 @@ unfoldable pub noEmpty : List Buffer → Bool
 noEmpty [] = true
 noEmpty (b ∷ bs) = not (eqb (b .len) 0) && noEmpty bs
 
+-- both of what a well-formed chain's list is
+abbrev pub soundList : List Buffer → Bool
+soundList bs = noEmpty bs && inOrder bs
+
+-- a descriptor that refers to an indirect list at its slot's address
+abbrev pub listed : Bool → ℕ → ℕ → Desc → Bool
+listed indirect n slot d =
+    indirect
+    && (eqb (d .flags) 4
+    && (eqb (d .addr) slot
+    && (leb 2 (d .len / 16) && (leb (d .len / 16) n && eqb (d .len) (16 * (d .len / 16))))))
+
 module _ (q : Queue) where
   -- all descriptors that are named: the free ones, and those of each head's chain (a number that heads none has an empty one)
   abbrev pub named : List ℕ
   named = freeList q ++ walks (nextOf q) (notedOf q) (q .n) 0
 
-  -- of the k descriptors from i on each has NEXT but the last
-  unfoldable pub linked : ℕ → ℕ → Bool
-  linked zero i = true
-  linked (suc zero) i = not (hasNext (descOf q i))
-  linked (suc (suc k)) i = hasNext (descOf q i) && linked (suc k) (nextOf q i)
-
   -- an indirect head: flags 4, its slot's address, a list of 2 to n buffers, and 16 times that as length
   abbrev pub indirectHead : ℕ → Bool
-  indirectHead h =
-      q .modes .indirect
-      && (eqb (descOf q h .flags) 4
-      && (eqb (descOf q h .addr) (slotAddr q h)
-      && (leb 2 (entriesOf q h) && (leb (entriesOf q h) (q .n) && eqb (descOf q h .len) (16 * entriesOf q h)))))
+  indirectHead h = listed (q .modes .indirect) (q .n) (slotAddr q h) (descOf q h)
 
   -- how many chains are outstanding
   abbrev pub outCount : ℕ
@@ -93,13 +96,13 @@ module _ (q : Queue) where
   once-clause = onceEach (q .n) named
 
   abbrev pub end-clause : Bool
-  end-clause = everyHead (λ h. linked (notedOf q h) h)
+  end-clause = everyHead (λ h. ending (λ i. hasNext (descOf q i)) (nextOf q) (notedOf q h) h)
 
   abbrev pub indirect-clause : Bool
   indirect-clause = everyHead (λ h. not (isIndirect q h) || indirectHead h)
 
   abbrev pub buffer-clause : Bool
-  buffer-clause = everyHead (λ h. noEmpty (buffersOf q h) && inOrder (buffersOf q h))
+  buffer-clause = everyHead (λ h. soundList (buffersOf q h))
 
   abbrev pub count-clause : Bool
   count-clause = eqb (ahead (q .counts .avail) (q .counts .last) + one-if (isAdd (q .call))) outCount
