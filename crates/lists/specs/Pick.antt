@@ -1,6 +1,6 @@
 -- The first test of a list that holds, a test at each of a run of numbers, and a run of a list's entries.
 use mathlib.Core.Bool.{Bool, true, false, _&&_}
-use mathlib.Core.List.{List, [], _∷_}
+use mathlib.Core.List.{List, [], _∷_, map}
 use Prim.Native.Nat.{ℕ, zero, suc, _+_}
 use lib.Dec.{eqb}
 use lib.ListN.{getD}
@@ -30,15 +30,14 @@ unfoldable pub tally : (ℕ → Bool) → ℕ → ℕ → ℕ
 tally p zero i = 0
 tally p (suc m) i = one-if (p i) + tally p m (suc i)
 
--- the k entries of xs from a on, d for those past its end
-unfoldable pub run-of : {A : Type 0} → A → List A → ℕ → ℕ → List A
-run-of d xs a zero = []
-run-of d xs a (suc k) = getD xs a d ∷ run-of d xs (suc a) k
-
 -- the k numbers from i on
 unfoldable pub rising : ℕ → ℕ → List ℕ
 rising zero i = []
 rising (suc k) i = i ∷ rising k (suc i)
+
+-- the k entries of xs from a on, d for those past its end
+abbrev pub run-of : {A : Type 0} → A → List A → ℕ → ℕ → List A
+run-of d xs a k = map (λ i. getD xs i d) (rising k a)
 
 -- two lists of numbers are one
 unfoldable pub same : List ℕ → List ℕ → Bool

@@ -1,6 +1,6 @@
 -- A name that opens every definition that a worked example runs through: `unfolding computing`, and the example is closed by computing it.
 use Rattle.lists.specs.Bytes.{getLE, putLE}
-use Rattle.lists.specs.Pick.{every, tally, run-of, rising, same}
+use Rattle.lists.specs.Pick.{every, tally, rising, same}
 use Rattle.lists.specs.Walk.{hop, walk, ending, walks}
 use Rattle.lists.specs.Once.{mem, noDup, allBelow, onceEach}
 use Rattle.virtio.specs.Desc.{descAt, putDesc}
@@ -13,5 +13,5 @@ use Rattle.rules.specs.New.{linkedFrom, putDescs, new}
 use Rattle.rules.specs.Owning.{ownBroken, ownWellFormed, addOwn, ownNew, poll, release}
 
 unfoldable pub computing : Unit {0}
-unfolding getLE putLE every tally run-of rising same hop walk ending walks mem noDup allBelow onceEach descAt putDesc usedAt needOne needTwo allOutputs inOrder follow noIndirect listOf expand chainAt sizeOk noEmpty everyHead broken wellFormed emptyAll move fill openAdd sameList openPop openPeek moves run canPop shouldNotify setDevNotify availableDesc linkedFrom putDescs new ownBroken ownWellFormed addOwn ownNew poll release
+unfolding getLE putLE every tally rising same hop walk ending walks mem noDup allBelow onceEach descAt putDesc usedAt needOne needTwo allOutputs inOrder follow noIndirect listOf expand chainAt sizeOk noEmpty everyHead broken wellFormed emptyAll move fill openAdd sameList openPop openPeek moves run canPop shouldNotify setDevNotify availableDesc linkedFrom putDescs new ownBroken ownWellFormed addOwn ownNew poll release
 computing = tt

@@ -42,6 +42,25 @@ listed indirect n slot d =
     && (eqb (d .addr) slot
     && (leb 2 (d .len / 16) && (leb (d .len / 16) n && eqb (d .len) (16 * (d .len / 16))))))
 
+-- how many steps an add of k buffers has: a store for each, the last descriptor or the indirect one, ring slot, idx;
+-- and a pop behind its loads: a store for each of the count descriptors, and used_event if it is in use
+abbrev pub stepsOfAdd : ℕ → ℕ
+stepsOfAdd k = k + 3
+
+abbrev pub stepsOfStores : Bool → ℕ → ℕ
+stepsOfStores event count = count + one-if event
+
+-- an open call over a record in which `out` says what heads a chain, `size` of how many buffers, with so many descriptors free
+abbrev pub callFits : (ℕ → Bool) → (ℕ → ℕ) → ℕ → Bool → Open → Bool
+callFits out size free event Idle = true
+callFits out size free event (Add h i) = out h && ltb i (stepsOfAdd (size h))
+callFits out size free event (PopIdx t b) = true
+callFits out size free event (PopId t b) = true
+callFits out size free event (PopLen t b d) = true
+callFits out size free event (PopStore k i l) = ltb i (stepsOfStores event k) && leb k free
+callFits out size free event PeekIdx = true
+callFits out size free event PeekId = true
+
 module _ (q : Queue) where
   -- all descriptors that are named: the free ones, and those of each head's chain (a number that heads none has an empty one)
   abbrev pub named : List ℕ
@@ -55,24 +74,15 @@ module _ (q : Queue) where
   abbrev pub outCount : ℕ
   outCount = tally (outstanding q) (q .n) 0
 
-  -- how many steps an add of the chain at h has: a store for each buffer, the last descriptor or the indirect one, ring slot, idx;
-  -- and a pop behind its loads: a store for each of the count descriptors, and used_event if it is in use
   abbrev pub addSteps : ℕ → ℕ
-  addSteps h = sizeOf q h + 3
+  addSteps h = stepsOfAdd (sizeOf q h)
 
   abbrev pub storeSteps : ℕ → ℕ
-  storeSteps count = count + one-if (q .modes .«event_idx»)
+  storeSteps count = stepsOfStores (q .modes .«event_idx») count
 
   -- the open call names a step that it has; an add has an outstanding head; a storing pop's descriptors are free
   abbrev pub callOk : Open → Bool
-  callOk Idle = true
-  callOk (Add h i) = outstanding q h && ltb i (addSteps h)
-  callOk (PopIdx t b) = true
-  callOk (PopId t b) = true
-  callOk (PopLen t b d) = true
-  callOk (PopStore k i l) = ltb i (storeSteps k) && leb k (freeCount q)
-  callOk PeekIdx = true
-  callOk PeekId = true
+  callOk c = callFits (outstanding q) (sizeOf q) (freeCount q) (q .modes .«event_idx») c
 
   -- a test at each outstanding head
   unfoldable pub everyHead : (ℕ → Bool) → Bool
