@@ -1,4 +1,4 @@
-// The 16-bit indices of the rings, which count on and wrap from 65,535 to 0 (document 01, "Rules of the calls" and its forms).
+// The 16-bit indices of the rings, counted by wrapping add and compared by wrapping subtract (document 01, "Rules of the calls" and its forms).
 ghost use mathlib.Core.Path.{_≡_};
 ghost use Rattle.lists.specs.Index.{after as afterIs, ahead as aheadIs};
 

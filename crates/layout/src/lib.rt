@@ -2,7 +2,7 @@
 ghost use mathlib.Core.Path.{_≡_};
 ghost use Prim.Native.Nat.{_≤_, _^_};
 ghost use lib.ListN.{length};
-ghost use Rattle.virtio.specs.Layout.{tableSize, availSize, usedSize, pageUp, usedAt, needOne, needTwo, needPool};
+ghost use Rattle.virtio.specs.Layout.{tableSize, availSize, usedSize, pageUp, availAt, usedAt, needOne, needTwo, needPool};
 ghost use Rattle.layout.specs.Parts.{usedRingOf};
 
 // The bytes of the descriptor table.
@@ -32,6 +32,13 @@ pub fn page_up(x: usize) -> usize
     ensures { λ r. ⌜ r ≡ pageUp x ⌝ }
 {
     (x + 4095) / 4096 * 4096
+}
+
+// Where the available ring starts in region one: right behind the table.
+pub fn avail_at(n: u16) -> usize
+    ensures { λ r. ⌜ r ≡ availAt n ⌝ }
+{
+    table_size(n)
 }
 
 // Where the used ring starts in the region that holds it.
@@ -71,7 +78,7 @@ pub fn need_pool(n: u16) -> usize
     16 * (wide * wide)
 }
 
-// The used ring: a part of whichever of the two lent regions holds it.
+// The used ring, lent on as a part of the region in which the layout has it.
 pub fn used_ring<'a>(one: &'a [u8], two: &'a [u8], legacy: bool, n: u16) -> &'a [u8]
     requires { ⌜ needOne legacy n ≤ length (now one) ⌝ }
     requires { ⌜ needTwo legacy n ≤ length (now two) ⌝ }

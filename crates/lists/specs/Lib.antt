@@ -6,6 +6,7 @@
 --   Walk      the numbers along links
 --   Once      a list that names each of 0..n-1 once: the computed test, and its plain meaning
 --   Visit     the same test, as nested loops make it that mark the names they meet
+--   Places    where a number stands that is named once
 --   PickLaws  laws of Pick's definitions
 pub mod Index
 pub mod Bytes
@@ -14,4 +15,5 @@ pub mod Pick
 pub mod Walk
 pub mod Once
 pub mod Visit
+pub mod Places
 pub mod PickLaws

@@ -28,6 +28,11 @@ allBelow n (x ∷ xs) = ltb x n && allBelow n xs
 unfoldable pub onceEach : ℕ → List ℕ → Bool
 onceEach n xs = noDup xs && (eqb (length xs) n && allBelow n xs)
 
+-- tried: all of 0..2, in another order; one twice; one too large; one missing
+tried : (onceEach 3 (2 ∷ 0 ∷ 1 ∷ []) ≡ true) × (onceEach 3 (0 ∷ 1 ∷ 0 ∷ []) ≡ false) × (onceEach 3 (0 ∷ 1 ∷ 3 ∷ []) ≡ false) × (onceEach 3 (0 ∷ 1 ∷ []) ≡ false)
+unfolding onceEach noDup mem allBelow
+tried = (refl, refl, refl, refl)
+
 -- how often x is in the list
 unfoldable pub count : ℕ → List ℕ → ℕ
 count x [] = 0
@@ -59,11 +64,11 @@ below-all n (x ∷ xs) b = rw (lt-ltb x n (b .0)) (below-all n xs (b .1))
 
 -- ---- counting
 
-count-same : (x y : ℕ) (ys : List ℕ) → x ≡ y → count x (y ∷ ys) ≡ suc (count x ys)
+pub count-same : (x y : ℕ) (ys : List ℕ) → x ≡ y → count x (y ∷ ys) ≡ suc (count x ys)
 unfolding count
 count-same x y ys e = rw (eq-eqb x y e)
 
-count-other : (x y : ℕ) (ys : List ℕ) → (x ≡ y → ⊥) → count x (y ∷ ys) ≡ count x ys
+pub count-other : (x y : ℕ) (ys : List ℕ) → (x ≡ y → ⊥) → count x (y ∷ ys) ≡ count x ys
 unfolding count
 count-other x y ys e = rw (ne-eqb x y e)
 

@@ -2,7 +2,7 @@
 use mathlib.Core.Path.{_≡_, refl, ap}
 use mathlib.Core.Bool.{Bool, true, false, not, _&&_}
 use mathlib.Core.List.{List, [], _∷_, _++_}
-use Prim.Native.Nat.{ℕ, zero, suc, _+_, _≤_, _<_}
+use Prim.Native.Nat.{ℕ, zero, suc, _+_, _-_, _≤_, _<_}
 use native.Mathlib.Omega.{arith}
 use borrow.Author.Tests.{not-true}
 use lib.ListN.{length}
@@ -44,6 +44,29 @@ ending goes next (suc zero) i = not (goes i)
 ending goes next (suc (suc k)) i = goes i && ending goes next (suc k) (next i)
 
 module _ (goes : ℕ → Bool) (next : ℕ → ℕ) where
+  -- a loop's turn, where `goes` holds at i and i is not the last; its way out, where it does not; and its end, at the last number or at none
+  pub ending-next : (k i : ℕ) → 1 < k → goes i ≡ true → ending goes next k i ≡ ending goes next (k - 1) (next i)
+  unfolding ending
+  ending-next zero i l e = absurd (omega arith)
+  ending-next (suc zero) i l e = absurd (omega arith)
+  ending-next (suc (suc k)) i l e =
+      let m : suc k ≡ suc (suc k) - 1 = omega arith in
+      rw e (ap (λ j. ending goes next j (next i)) m)
+
+  pub ending-bad : (k i : ℕ) → 1 < k → goes i ≡ false → ending goes next k i ≡ false
+  unfolding ending
+  ending-bad zero i l e = absurd (omega arith)
+  ending-bad (suc zero) i l e = absurd (omega arith)
+  ending-bad (suc (suc k)) i l e = rw e
+
+  pub ending-last : (k i : ℕ) → k ≡ 1 → ending goes next k i ≡ not (goes i)
+  unfolding ending
+  ending-last k i e = rw (e, ending)
+
+  pub ending-none : (k i : ℕ) → k ≡ 0 → ending goes next k i ≡ true
+  unfolding ending
+  ending-none k i e = rw (e, ending)
+
   pub ending-goes-on : (k h : ℕ) → ending goes next k h ≡ true → (i : ℕ) → i + 1 < k → goes (hop next i h) ≡ true
   unfolding ending hop
   ending-goes-on zero h e i l = absurd (omega arith)

@@ -1,6 +1,6 @@
 -- DEMAND 3, stated. Take a fresh queue, of any allowed size, modes and layout, one device that keeps the rules, and any list of events of the two.
--- Where it leaves no call and no act half done, there is an order of whole calls and whole acts that leaves the very same trace: each side's own
--- operations in its own order, the same answers, the same chains taken and numbers seen, the same end memory, byte for byte, and record.
+-- Where it leaves nothing half done, some order of unmixed operations leaves the very same trace: what each side did, in its own order, what it was
+-- answered, took and saw, and the record and every byte of memory at the end.
 use mathlib.Core.Path.{_≡_}
 use mathlib.Core.Bool.{false}
 use mathlib.Core.List.{List, [], _∷_, _++_}

@@ -1,4 +1,4 @@
--- A device that keeps the rules (document 01, "Step by step", last paragraph; VIRTIO 1.1, 2.6.8 and 2.6.14): one act open at a time, one load or
+-- A device that keeps the rules (document 01, "Step by step", last paragraph; VIRTIO 1.1, 2.6.8): one act open at a time, one load or
 -- store a step, and no store but to the used ring.
 use mathlib.Core.Path.{_≡_, refl}
 use mathlib.Core.Bool.{Bool, true, false, cond}
@@ -20,7 +20,7 @@ pub record Wiring : Type 0 where
 
 -- The acts: take the next available chain; complete a taken chain, by its head, with any length; and the single steps.
 pub data Act : Type 0 where
-  take : Act
+  take-next : Act
   complete : ℕ → ℕ → Act
   set-used-flags set-avail-event : ℕ → Act
   see-avail-flags see-used-event : Act
@@ -99,7 +99,7 @@ module _ (w : Wiring) where
 
   -- An opening: take and complete make no load and no store yet; a single step is made at once.
   abbrev pub begin : Act → Device → Memory → Worked
-  begin take d m = goes d take-idx m
+  begin take-next d m = goes d take-idx m
   begin (complete h l) d m = cond (mayGiveBack (d .holds) h) (goes d (complete-id h l) m) (comes d not-taken m)
   begin (set-used-flags v) d m = comes d stored (put used-flags v m)
   begin (set-avail-event v) d m = comes d stored (put avail-event v m)

@@ -24,7 +24,7 @@ use Rattle.rules.specs.Step.{move}
 
 -- ---- refusals
 
--- the memory that every call but available_desc needs: the layout's regions and, if indirect, the pool
+-- the lent memory holds what the layout asks for, and the pool in indirect mode
 abbrev pub fits : Queue → Memory → Bool
 fits q m =
     leb (needOne (q .modes .legacy) (q .n)) (length (m .one))
@@ -102,8 +102,8 @@ module _ (q : Queue) where
   }
 
   -- and indirect: one descriptor, that refers to the list in the head's pool slot
-  abbrev pub listDesc : ℕ → ℕ → Desc
-  listDesc h k = record { addr = slotAddr q h; len = 16 * k; flags = flagsOf false false true; next = nextOf q h }
+  abbrev pub headDesc : ℕ → ℕ → Desc
+  headDesc h k = record { addr = slotAddr q h; len = 16 * k; flags = flagsOf false false true; next = nextOf q h }
 
   abbrev pub addIndirect : List Buffer → Queue
   addIndirect bs = record {
@@ -113,7 +113,7 @@ module _ (q : Queue) where
     counts =
         record { used = q .counts .used + 1; free = nextOf q (q .counts .free); avail = q .counts .avail; last = q .counts .last };
     tables = record {
-      shadow = set (q .tables .shadow) (q .counts .free) (listDesc (q .counts .free) (length bs));
+      shadow = set (q .tables .shadow) (q .counts .free) (headDesc (q .counts .free) (length bs));
       noted = set (q .tables .noted) (q .counts .free) 1;
       kept = sets (q .tables .kept) (q .n * q .counts .free) bs;
     };
@@ -169,7 +169,7 @@ run b q m = unless (stepRefusal q m) q m (moves b (opened q m))
 abbrev pub step : Queue → Memory → Outcome
 step q m = run 1 q m
 
--- a whole call is its opening and all its steps, which are at most n + 4
+-- a whole call: opened, and run until it closes, which takes at most n + 4 steps
 abbrev pub whole : ℕ → Outcome → Outcome
 whole n o = cond (eqb (o .answer) 0) (moves (n + 4) o) o
 

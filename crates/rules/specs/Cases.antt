@@ -1,5 +1,5 @@
--- The cases that document 01 marks P ("Replays", last paragraph), proved of the rules by one statement over one list. A case is what the rules
--- give, as numbers, and what 01 says.
+-- The cases that document 01 marks P ("Replays", last paragraph), in one list with one theorem over it. A case is what the rules give, as numbers,
+-- and what 01 says.
 use mathlib.Core.Path.{_≡_, refl}
 use mathlib.Core.Bool.{Bool, true, false, _&&_}
 use mathlib.Core.List.{List, [], _∷_}

@@ -9,9 +9,9 @@ use Rattle.virtio.specs.Chain.{allOutputs, inOrder, follow, noIndirect, listOf,
 use Rattle.rules.specs.WellFormed.{sizeOk, noEmpty, everyHead, broken, wellFormed}
 use Rattle.rules.specs.Step.{emptyAll, move}
 use Rattle.rules.specs.Calls.{fill, openAdd, sameList, openPop, openPeek, moves, run, canPop, shouldNotify, setDevNotify, availableDesc}
-use Rattle.rules.specs.New.{linkedFrom, putDescs, new}
-use Rattle.rules.specs.Owning.{ownBroken, ownWellFormed, addOwn, ownNew, poll, release}
+use Rattle.rules.specs.New.{nextsFrom, putDescs, new}
+use Rattle.rules.specs.Owning.{ownBroken, ownWellFormed, addOwn, ownNew, poll, release, ownShouldNotify, ownSetDevNotify}
 
 unfoldable pub computing : Unit {0}
-unfolding getLE putLE every tally rising same hop walk ending walks mem noDup allBelow onceEach descAt putDesc usedAt needOne needTwo allOutputs inOrder follow noIndirect listOf expand chainAt sizeOk noEmpty everyHead broken wellFormed emptyAll move fill openAdd sameList openPop openPeek moves run canPop shouldNotify setDevNotify availableDesc linkedFrom putDescs new ownBroken ownWellFormed addOwn ownNew poll release
+unfolding getLE putLE every tally rising same hop walk ending walks mem noDup allBelow onceEach descAt putDesc usedAt needOne needTwo allOutputs inOrder follow noIndirect listOf expand chainAt sizeOk noEmpty everyHead broken wellFormed emptyAll move fill openAdd sameList openPop openPeek moves run canPop shouldNotify setDevNotify availableDesc nextsFrom putDescs new ownBroken ownWellFormed addOwn ownNew poll release ownShouldNotify ownSetDevNotify
 computing = tt

@@ -13,6 +13,10 @@
 --   Worked      01's worked replay, and what calls leave in memory
 --   Orders      each two refusals that follow one another in 01's orders
 --   Clauses     each clause of a well-formed record, broken
+--   NewCorners  new over memory that held 9s, flexible and legacy
+--   Corners     the queue's calls: each ground of a refusal, links and slots other than the first
+--   LegacyCorners  the used ring in region one
+--   OwningCorners  each clause of an owning record, broken; what its calls leave
 pub mod Record
 pub mod WellFormed
 pub mod Meaning
@@ -26,3 +30,7 @@ pub mod Cases
 pub mod Worked
 pub mod Orders
 pub mod Clauses
+pub mod NewCorners
+pub mod Corners
+pub mod LegacyCorners
+pub mod OwningCorners

@@ -60,18 +60,18 @@ Named q PeekIdx = Unit {0}
 Named q PeekId = Unit {0}
 
 pub record WellFormed (q : Queue) : Type 0 where
-  -- 1: N is a power of two, 1 to 64
+  -- 1: the size
   pub size : (k : ℕ) × (k ≤ 6) × (q .n ≡ 2 ^ k)
-  -- 2: the pool's base is one that new takes, or 0 when not in indirect mode
+  -- 2: the pool's base, in either mode
   pub pool : q .modes .indirect ≡ true → Based (q .base) (needPool (q .n))
   pub no-pool : q .modes .indirect ≡ false → q .base ≡ 0
-  -- 3, 4: num_used ≤ N; free_head and every shadow next are below N
+  -- 3, 4: num_used, free_head, and where descriptors lead
   pub used : q .counts .used ≤ q .n
   pub free : q .counts .free < q .n
   pub nexts : (i : ℕ) → i < q .n → nextOf q i < q .n
-  -- 5: the free list and the outstanding chains name each of 0..N-1 once
+  -- 5: every descriptor is free, or part of a chain, and that in one place
   pub once : Once (q .n) (named q)
-  -- 6: each chain goes on for its noted length, and ends there
+  -- 6: a chain is as long as noted
   pub goes-on : (h i : ℕ) → Out q h → i + 1 < notedOf q h → hasNext (descOf q (hop (nextOf q) i h)) ≡ true
   pub stops : (h : ℕ) → Out q h → hasNext (descOf q (lastOf q h)) ≡ false
   -- 7, 8: its head, where it has INDIRECT; its buffers

@@ -1,7 +1,7 @@
 -- The call new (document 01, "The record", last paragraph, and the orders of "When the queue says no"): its refusals, the fresh record, the
 -- memory cleared and linked, and the three addresses for the transport.
 use mathlib.Core.Bool.{Bool, false, not, cond, _&&_, _||_}
-use mathlib.Core.List.{List, [], _∷_, _++_}
+use mathlib.Core.List.{List, [], _∷_, _++_, map}
 use Prim.Native.Nat.{ℕ, zero, suc, _+_, _-_, _*_}
 use lib.Dec.{ltb, leb, eqb}
 use lib.ListN.{length, replicate}
@@ -43,19 +43,19 @@ pub record Made : Type 0 where
 abbrev pub lends : ℕ → ℕ → ℕ → Bool
 lends base size have = leb size have && baseOk base size
 
--- region two is needed in the flexible layout, the pool in indirect mode
-abbrev pub regionsOk : Ask → Memory → Bool
-regionsOk a m =
-    lends (a .base-one) (needOne (a .modes .legacy) (a .n)) (length (m .one))
-    && ((a .modes .legacy || lends (a .base-two) (needTwo false (a .n)) (length (m .two)))
-    && (not (a .modes .indirect) || lends (a .base-pool) (needPool (a .n)) (length (m .pool))))
+-- lent so many bytes of region one, region two and the pool: region two is needed in the flexible layout, the pool in indirect mode
+abbrev pub regionsOk : Ask → ℕ → ℕ → ℕ → Bool
+regionsOk a one two pool =
+    lends (a .base-one) (needOne (a .modes .legacy) (a .n)) one
+    && ((a .modes .legacy || lends (a .base-two) (needTwo false (a .n)) two)
+    && (not (a .modes .indirect) || lends (a .base-pool) (needPool (a .n)) pool))
 
-abbrev pub newRefusal : Ask → Memory → ℕ
-newRefusal a m = first (
+abbrev pub newRefusal : Ask → ℕ → ℕ → ℕ → ℕ
+newRefusal a one two pool = first (
     (BadSize when not (sizeOk (a .n)))
     ∷ (AlreadyUsed when a .in-use)
     ∷ (InvalidParam when ltb (a .most) (a .n))
-    ∷ (BadRegion when not (regionsOk a m))
+    ∷ (BadRegion when not (regionsOk a one two pool))
     ∷ []
     )
 
@@ -65,11 +65,17 @@ newRefusal a m = first (
 abbrev pub limit : ℕ
 limit = 64
 
--- k descriptors from i on, each linked to the one after it; the last next is 0
-unfoldable pub linkedFrom : ℕ → ℕ → List Desc
-linkedFrom zero i = []
-linkedFrom (suc zero) i = noDesc ∷ []
-linkedFrom (suc (suc k)) i = record { addr = 0; len = 0; flags = 0; next = suc i } ∷ linkedFrom (suc k) (suc i)
+-- the nexts of the k descriptors from i on, where all are free: each the one after it, and the last 0
+unfoldable pub nextsFrom : ℕ → ℕ → List ℕ
+nextsFrom zero i = []
+nextsFrom (suc zero) i = 0 ∷ []
+nextsFrom (suc (suc k)) i = suc i ∷ nextsFrom (suc k) (suc i)
+
+abbrev pub linking : ℕ → Desc
+linking x = record { addr = 0; len = 0; flags = 0; next = x }
+
+abbrev pub linked : ℕ → List Desc
+linked n = map linking (nextsFrom n 0)
 
 abbrev pub zeroCounts : Counts
 zeroCounts = record { used = 0; free = 0; avail = 0; last = 0 }
@@ -91,7 +97,7 @@ freshQueue a = record {
   base = cond (a .modes .indirect) (a .base-pool) 0;
   counts = zeroCounts;
   tables = record {
-    shadow = linkedFrom (a .n) 0 ++ replicate (limit - a .n) noDesc;
+    shadow = linked (a .n) ++ replicate (limit - a .n) noDesc;
     noted = replicate limit 0;
     kept = replicate (limit * limit) noBuffer;
   };
@@ -113,7 +119,7 @@ clearUsed legacy n m =
 
 abbrev pub clearFront : ℕ → Memory → Memory
 clearFront n m = record {
-  one = putDescs (cleared (m .one) 0 (tableSize n + availSize n)) 0 (linkedFrom n 0);
+  one = putDescs (cleared (m .one) 0 (tableSize n + availSize n)) 0 (linked n);
   two = m .two;
   pool = m .pool;
 }
@@ -140,4 +146,6 @@ abbrev pub notMade : ℕ → Memory → Made
 notMade number m = record { answer = number; table = 0; avail = 0; used = 0; queue = zeroQueue; memory = m }
 
 unfoldable pub new : Ask → Memory → Made
-new a m = cond (eqb (newRefusal a m) 0) (made a m) (notMade (newRefusal a m) m)
+new a m =
+    let refusal : ℕ = newRefusal a (length (m .one)) (length (m .two)) (length (m .pool)) in
+    cond (eqb refusal 0) (made a m) (notMade refusal m)

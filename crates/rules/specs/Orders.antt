@@ -6,7 +6,7 @@ use mathlib.Core.List.{List, [], _∷_}
 use Prim.Native.Nat.{ℕ}
 use lib.ListN.{replicate}
 use Rattle.virtio.specs.declared.Buffer.{Buffer}
-use Rattle.virtio.specs.Memory.{used-id}
+use Rattle.virtio.specs.Memory.{used-idx, used-id}
 use Rattle.rules.specs.declared.Open.the-variants.{PeekIdx}
 use Rattle.rules.specs.Record.{withCounts, withCall}
 use Rattle.rules.specs.Answer.{Outcome}
@@ -109,18 +109,18 @@ abbrev lined : Owned
 lined = owns 0 8 33 fresh
 
 -- the record with the queue, or what it is lent, changed
-abbrev polling : State → Owned → Owned
+abbrev pub polling : State → Owned → Owned
 polling s o =
     poll (record { queue = s .queue; base = o .owning .base; size = o .owning .size; held = o .owning .held }) (s .memory) (o .store)
 
-abbrev releasing : State → Owned → Owned
+abbrev pub releasing : State → Owned → Owned
 releasing s o =
     release (record { queue = s .queue; base = o .owning .base; size = o .owning .size; held = o .owning .held }) (s .memory) (o .store)
 
-abbrev rest : Owned → State
+abbrev pub rest : Owned → State
 rest o = record { queue = o .owning .queue; memory = o .memory }
 
-abbrev tells : Owned → List ℕ
+abbrev pub tells : Owned → List ℕ
 tells o = o .answer ∷ o .value ∷ []
 
 abbrev held : Owned
@@ -140,6 +140,7 @@ ownOrders =
     ∷ record { got = tells (polling (short (bad (rest lined))) lined); want = 12 ∷ 0 ∷ [] }
     ∷ record { got = tells (polling (short (rest held)) held); want = 13 ∷ 0 ∷ [] }
     ∷ record { got = tells (polling (rest held) held); want = 11 ∷ 0 ∷ [] }
+    ∷ record { got = tells (polling (stores used-idx 2 (stores (used-id 1) 4 (rest held))) held); want = 11 ∷ 0 ∷ [] }
     ∷ record { got = tells (polling (gives 4 9 (rest lined)) lined); want = 4 ∷ 0 ∷ [] }
     ∷ record { got = tells (polling (gives 2 9 (rest lined)) lined); want = 10 ∷ 0 ∷ [] }
     ∷ record { got = tells (polling (rest lined) lined); want = 0 ∷ 0 ∷ [] }

@@ -59,7 +59,7 @@ module _ (o : Owning) where
   abbrev pub ownList : ℕ → List Buffer
   ownList i = ownBuffer (o .base) (o .size) i ∷ []
 
-  -- each outstanding chain is its token's own buffer
+  -- a chain that is out consists of the buffer that belongs to its token
   abbrev pub own-clause : Bool
   own-clause =
       every (λ h. not (outstanding (o .queue) h) || sameList (buffersOf (o .queue) h) (ownList h)) (o .queue .n) 0
@@ -209,13 +209,14 @@ module _ (o : Owning) where
   unfoldable pub release : Memory → List ℕ → Owned
   release m s = cond (eqb (releaseRefusal m s) 0) (released (o .held) m s) (ownRefused (releaseRefusal m s) m s)
 
-  -- ---- what passes through
+  -- ---- what passes through: a well-formed record's question or order goes to the queue as it is, with no store
 
   abbrev pub passed : Outcome → List ℕ → Owned
   passed p s = plainly (p .answer) (p .value) (p .queue) (o .held) (p .memory) s
 
-  abbrev pub ownShouldNotify : Memory → List ℕ → Owned
-  ownShouldNotify m s = passed (shouldNotify (o .queue) m) s
+  unfoldable pub ownShouldNotify : Memory → List ℕ → Owned
+  ownShouldNotify m s = cond (ownWellFormed o) (passed (shouldNotify (o .queue) m) s) (ownRefused BadRecord m s)
 
-  abbrev pub ownSetDevNotify : Memory → List ℕ → Bool → Owned
-  ownSetDevNotify m s wanted = passed (setDevNotify (o .queue) m wanted) s
+  unfoldable pub ownSetDevNotify : Memory → List ℕ → Bool → Owned
+  ownSetDevNotify m s wanted =
+      cond (ownWellFormed o) (passed (setDevNotify (o .queue) m wanted) s) (ownRefused BadRecord m s)

@@ -11,7 +11,7 @@ use Rattle.lists.specs.Once.{mem, onceEach}
 use Rattle.virtio.specs.declared.Desc.{Desc}
 use Rattle.virtio.specs.declared.Buffer.{Buffer}
 use Rattle.virtio.specs.Desc.{hasNext}
-use Rattle.virtio.specs.Layout.{needPool}
+use Rattle.virtio.specs.Layout.{page, needPool}
 use Rattle.virtio.specs.Chain.{inOrder}
 use Rattle.rules.specs.declared.Open.{Open}
 use Rattle.rules.specs.declared.Open.the-variants.{Idle, Add, PopIdx, PopId, PopLen, PopStore, PeekIdx, PeekId}
@@ -23,7 +23,7 @@ sizeOk n = mem n (1 ∷ 2 ∷ 4 ∷ 8 ∷ 16 ∷ 32 ∷ 64 ∷ [])
 
 -- a base that new takes for a region with this need: on a page, and base and need within 2^64 (01, number 13)
 abbrev pub baseOk : ℕ → ℕ → Bool
-baseOk base size = eqb (base % 4096) 0 && leb (base + size) (2 ^ 64)
+baseOk base size = eqb (base % page) 0 && leb (base + size) (2 ^ 64)
 
 -- no buffer of the list is empty
 unfoldable pub noEmpty : List Buffer → Bool

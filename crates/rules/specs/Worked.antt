@@ -7,7 +7,7 @@ use Prim.Native.Nat.{ℕ}
 use lib.ListN.{take, drop}
 use Rattle.lists.specs.Pick.{one-if}
 use Rattle.virtio.specs.declared.Buffer.{Buffer}
-use Rattle.virtio.specs.Chain.{Meaning, broken, buffers, chainAt}
+use Rattle.virtio.specs.Chain.{Reading, faulty, buffers, chainAt}
 use Rattle.rules.specs.Record.{freeCount}
 use Rattle.rules.specs.Answer.{Outcome}
 use Rattle.rules.specs.Calls.{sameList, run, openAdd}
@@ -29,8 +29,8 @@ abbrev listed : Outcome
 listed = adding both (made (four lists))
 
 -- 1 where the chain at head 0 means these buffers
-abbrev reads : Meaning → List Buffer → ℕ
-reads broken bs = 0
+abbrev reads : Reading → List Buffer → ℕ
+reads faulty bs = 0
 reads (buffers cs) bs = one-if (sameList cs bs)
 
 abbrev at-head : ℕ → Outcome → ℕ

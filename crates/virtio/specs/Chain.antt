@@ -72,15 +72,15 @@ expanded base m lost = lost
 expanded base m (found ds) = expand base m ds
 
 -- What a chain means: its buffers, or nothing.
-pub data Meaning : Type 0 where
-  broken : Meaning
-  buffers : List Buffer → Meaning
+pub data Reading : Type 0 where
+  faulty : Reading
+  buffers : List Buffer → Reading
 
 -- 2.6.5.3.1: no more than n descriptors in all; 2.6.4.2: in order
-abbrev pub meant : ℕ → Found → Meaning
-meant n lost = broken
-meant n (found ds) = cond (leb (length ds) n && inOrder (map bufferOf ds)) (buffers (map bufferOf ds)) broken
+abbrev pub meant : ℕ → Found → Reading
+meant n lost = faulty
+meant n (found ds) = cond (leb (length ds) n && inOrder (map bufferOf ds)) (buffers (map bufferOf ds)) faulty
 
 -- the chain at head h of a queue of size n
-unfoldable pub chainAt : ℕ → ℕ → Memory → ℕ → Meaning
+unfoldable pub chainAt : ℕ → ℕ → Memory → ℕ → Reading
 chainAt n base m h = meant n (expanded base m (follow (tableDesc m) n n h))

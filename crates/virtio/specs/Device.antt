@@ -5,6 +5,7 @@ use mathlib.Core.List.{List, [], _∷_}
 use Prim.Native.Nat.{ℕ, _%_}
 use Rattle.lists.specs.Index.{after}
 use Rattle.lists.specs.Once.{mem}
+use Rattle.virtio.specs.declared.Buffer.{Buffer}
 use Rattle.virtio.specs.Memory.{Memory, Place, desc, avail-flags, avail-idx, used-event, avail-ring, used-flags, used-idx, avail-event, used-id, used-len, entry, spot, storeAt}
 
 -- the fields that the device writes
@@ -24,6 +25,10 @@ deviceWrites (entry j) = false
 -- each field has one writer
 abbrev pub driverWrites : Place → Bool
 driverWrites p = not (deviceWrites p)
+
+-- 2.6.5: of the buffers it writes those that were offered for writing
+abbrev pub deviceFills : Buffer → Bool
+deviceFills b = b .output
 
 -- A store of a number to a field; a run of them.
 pub record Write : Type 0 where

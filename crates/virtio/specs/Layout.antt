@@ -28,7 +28,7 @@ abbrev pub page : ℕ
 page = 4096
 
 abbrev pub pageUp : ℕ → ℕ
-pageUp x = (x + 4095) / 4096 * 4096
+pageUp x = (x + 4095) / page * page
 
 -- The parts' places: the table at 0 of region one, the available ring after it, the used ring by the layout.
 abbrev pub availAt : ℕ → ℕ

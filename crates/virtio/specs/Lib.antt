@@ -3,7 +3,8 @@
 --   Layout   2.6, 2.6.2: sizes of the parts for any queue size; 01 part 1: where the parts lie, flexible and legacy
 --   Sizes    facts of these sizes, proved once for any queue size
 --   Memory   2.6.5, 2.6.6, 2.6.8: each field of the parts as a place in the lent memory; a load, a store
---   Chain    2.6.4, 2.6.5, 2.6.5.3: what a chain at a head means to a device, direct and through an indirect table
+--   Chain    2.6.4, 2.6.5, 2.6.5.3: how a device reads the chain at a head, plain or by an indirect table
+--   ChainCases  chains that a device can read, and one that breaks each rule
 --   Device   2.6.6, 2.6.8: what each side may write
 --   Notify   2.6.7, 2.6.10: when the other side asks to be notified, by flags and by event index
 pub mod Desc
@@ -11,5 +12,6 @@ pub mod Layout
 pub mod Sizes
 pub mod Memory
 pub mod Chain
+pub mod ChainCases
 pub mod Device
 pub mod Notify

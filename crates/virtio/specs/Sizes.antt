@@ -1,11 +1,11 @@
 -- Facts of the parts' sizes and places, proved once for any queue size n and both layouts: the parts are aligned and do not overlap, each field
 -- lies inside what its region needs, and no field that the device writes shares a byte with one that the driver writes.
 use mathlib.Core.Path.{_≡_, refl}
-use mathlib.Core.Bool.{Bool, true, false, true≢false, false≢true}
+use mathlib.Core.Bool.{Bool, true, false, cond, true≢false, false≢true}
 use mathlib.Core.Logic.{_⊎_, inl, inr}
 use Prim.Native.Nat.{ℕ, _+_, _*_, _%_, _^_, _≤_, _<_}
 use native.Mathlib.Omega.{arith}
-use Rattle.virtio.specs.Layout.{tableSize, availSize, usedSize, availAlign, usedAlign, page, pageUp, availAt, usedAt, needOne, needTwo, needPool}
+use Rattle.virtio.specs.Layout.{tableSize, availSize, usedSize, tableAlign, availAlign, usedAlign, page, pageUp, availAt, usedAt, needOne, needTwo, needPool}
 use Rattle.virtio.specs.Memory.{Region, in-one, in-two, in-pool, Place, desc, avail-flags, avail-idx, used-event, avail-ring, used-flags, used-idx, avail-event, used-id, used-len, entry, Spot, usedRegion, spot}
 use Rattle.virtio.specs.Device.{deviceWrites}
 
@@ -20,6 +20,16 @@ pub used-aligned : (legacy : Bool) (n : ℕ) → usedAt legacy n % usedAlign ≡
 unfolding usedAt
 used-aligned true n = omega arith
 used-aligned false n = refl
+
+-- so the addresses of the three parts are, where the regions' bases are on a page
+pub record Aligned (one two : ℕ) (legacy : Bool) (n : ℕ) : Type 0 where
+  pub table : one % tableAlign ≡ 0
+  pub avail : (one + availAt n) % availAlign ≡ 0
+  pub used : (cond legacy one two + usedAt legacy n) % usedAlign ≡ 0
+
+pub aligned : (one two : ℕ) (legacy : Bool) (n : ℕ) → one % page ≡ 0 → two % page ≡ 0 → Aligned one two legacy n
+aligned one two true n a b = let u = used-aligned true n in omega arith
+aligned one two false n a b = let u = used-aligned false n in omega arith
 
 -- In the legacy layout the used ring is behind the available ring, and inside what region one needs, which is whole pages.
 pub legacy-apart : (n : ℕ) → availAt n + availSize n ≤ usedAt true n

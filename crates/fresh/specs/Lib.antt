@@ -1,0 +1,2 @@
+-- The fresh nexts.
+pub mod Nexts
