@@ -7,6 +7,8 @@
 --   Once      a list that names each of 0..n-1 once: the computed test, and its plain meaning
 --   Visit     the same test, as nested loops make it that mark the names they meet
 --   Places    where a number stands that is named once
+--   WalkLaws  laws of walks: split, met twice, along links of which some have changed
+--   Stores    what stores to a list leave
 --   PickLaws  laws of Pick's definitions
 pub mod Index
 pub mod Bytes
@@ -16,4 +18,6 @@ pub mod Walk
 pub mod Once
 pub mod Visit
 pub mod Places
+pub mod WalkLaws
+pub mod Stores
 pub mod PickLaws

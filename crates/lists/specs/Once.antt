@@ -177,3 +177,7 @@ true-once n xs o =
     let d : noDup xs ≡ true = count-dup n xs (o .only) (λ i u. let e = o .each i u in omega arith) in
     let l : length xs ≡ n = sym (sum-length n xs (o .only)) ∙ sum-ones (λ i. count i xs) n (o .each) in
     rw (d, eq-eqb (length xs) n l, below-all n xs (o .only))
+
+-- so it has n names
+pub once-length : (n : ℕ) (xs : List ℕ) → Once n xs → length xs ≡ n
+once-length n xs o = sym (sum-length n xs (o .only)) ∙ sum-ones (λ i. count i xs) n (o .each)

@@ -1,5 +1,5 @@
--- Laws of Pick's `every`, `tally`, `first` and `rising`, and of membership.
-use mathlib.Core.Path.{_≡_, refl, ap, _∙_}
+-- Laws of Pick's `every`, `tally`, `first` and `rising`, of membership, and of a list of one value.
+use mathlib.Core.Path.{_≡_, refl, sym, ap, ap₂, _∙_}
 use mathlib.Core.Bool.{Bool, true, false, true≢false, false≢true}
 use mathlib.Core.List.{List, [], _∷_, _++_, map}
 use Prim.Native.Nat.{ℕ, zero, suc, _+_, _-_, _≤_, _<_}
@@ -7,10 +7,10 @@ use native.Mathlib.Omega.{arith}
 use native.Mathlib.Numerals.{add-one}
 use borrow.Author.Tests.{eqb-true}
 use lib.Dec.{eqb}
-use lib.ListN.{length, getD}
+use lib.ListN.{length, getD, replicate}
 use Rattle.lists.specs.Tests.{by-test, by-eq, and-left, and-right, and-both}
-use Rattle.lists.specs.Pick.{Test, _when_, first, every, tally, rising}
-use Rattle.lists.specs.Once.{mem}
+use Rattle.lists.specs.Pick.{Test, _when_, first, every, tally, one-if, rising}
+use Rattle.lists.specs.Once.{mem, count, count-same, count-other}
 
 -- ---- `every` says that p holds at each of the numbers
 
@@ -68,6 +68,40 @@ module _ (p : ℕ → Bool) where
   pub tally-none : (m i : ℕ) → m ≡ 0 → tally p m i ≡ 0
   unfolding tally
   tally-none m i e = rw (e, tally)
+
+-- a test that holds nowhere counts none
+pub tally-nowhere : (p : ℕ → Bool) → ((j : ℕ) → p j ≡ false) → (m i : ℕ) → tally p m i ≡ 0
+unfolding tally
+tally-nowhere p h zero i = refl
+tally-nowhere p h (suc m) i = ap₂ (λ b k. one-if b + k) (h i) (tally-nowhere p h m (suc i))
+
+-- a test that holds at one more number, t, counts one more
+module _ (p r : ℕ → Bool) where
+  pub tally-same : (m i : ℕ) → ((j : ℕ) → i ≤ j → j < i + m → r j ≡ p j) → tally r m i ≡ tally p m i
+  unfolding tally
+  tally-same zero i o = refl
+  tally-same (suc m) i o =
+      ap₂ (λ b k. one-if b + k) (o i (omega arith) (omega arith)) (tally-same m (suc i) (λ j l u. o j (omega arith) (omega arith)))
+
+  pub tally-more : (t : ℕ) → p t ≡ false → r t ≡ true → ((j : ℕ) → (j ≡ t → ⊥) → r j ≡ p j) → (m i : ℕ) → i ≤ t → t < i + m → tally r m i ≡ 1 + tally p m i
+  unfolding tally
+  tally-more t f g o zero i l u = absurd (omega arith)
+  tally-more t f g o (suc m) i l u =
+      by-eq i t
+      (λ e. let a : one-if (p i) ≡ 0 = ap one-if (ap p e ∙ f) in
+      let b : one-if (r i) ≡ 1 = ap one-if (ap r e ∙ g) in
+      let c : tally r m (suc i) ≡ tally p m (suc i) = tally-same m (suc i) (λ j v w. o j (omega arith)) in
+      omega arith)
+      (λ e. let a : one-if (r i) ≡ one-if (p i) = ap one-if (o i e) in
+      let c : tally r m (suc i) ≡ 1 + tally p m (suc i) = tally-more t f g o m (suc i) (omega arith) (omega arith) in
+      omega arith)
+
+-- and with p switched off at one of the numbers, h, one less
+pub tally-off : (p r : ℕ → Bool) (h : ℕ) → p h ≡ true → r h ≡ false → ((j : ℕ) → (j ≡ h → ⊥) → r j ≡ p j) → (m i : ℕ) → i ≤ h → h < i + m
+    → tally r m i + 1 ≡ tally p m i
+tally-off p r h on off same m i l u =
+    let e : tally p m i ≡ 1 + tally r m i = tally-more r p h off on (λ j d. sym (same j d)) m i l u in
+    omega arith
 
 -- ---- `first` gives 0 exactly where no test holds, so long as no test's number is 0
 
@@ -132,3 +166,30 @@ unfolding rising
 past-rising f d zero a i h = refl
 past-rising f d (suc k) a zero h = absurd (omega arith)
 past-rising f d (suc k) a (suc i) h = past-rising f d k (suc a) i (omega arith)
+
+-- two functions that agree on the numbers of a run have the same values there
+pub rising-agree : {A : Type 0} (f g : ℕ → A) (k a : ℕ) → ((i : ℕ) → a ≤ i → i < a + k → f i ≡ g i) → map f (rising k a) ≡ map g (rising k a)
+unfolding rising
+rising-agree f g zero a h = refl
+rising-agree f g (suc k) a h =
+    ap₂ (λ x xs. x ∷ xs) (h a (omega arith) (omega arith)) (rising-agree f g k (suc a) (λ i l u. h i (omega arith) (omega arith)))
+
+-- a run names no number below its first, and each of its own once
+count-under : (x k a : ℕ) → x < a → count x (rising k a) ≡ 0
+unfolding rising count
+count-under x zero a l = refl
+count-under x (suc k) a l = count-other x a (rising k (suc a)) (omega arith) ∙ count-under x k (suc a) (omega arith)
+
+pub count-rising : (x k a : ℕ) → a ≤ x → x < a + k → count x (rising k a) ≡ 1
+unfolding rising
+count-rising x zero a l u = absurd (omega arith)
+count-rising x (suc k) a l u =
+    by-eq x a
+    (λ e. count-same x a (rising k (suc a)) e ∙ ap suc (count-under x k (suc a) (omega arith)))
+    (λ e. count-other x a (rising k (suc a)) e ∙ count-rising x k (suc a) (omega arith) (omega arith))
+
+-- a list of one value has it at every place, and past its end where that is what is read there
+pub getD-same : {A : Type 0} (d : A) (n i : ℕ) → getD (replicate n d) i d ≡ d
+getD-same d zero i = refl
+getD-same d (suc n) zero = refl
+getD-same d (suc n) (suc i) = getD-same d n i

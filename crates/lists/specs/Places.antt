@@ -1,13 +1,13 @@
 -- Where a number stands in a list made of a first walk and then the walks of 0..n-1: named once in all means that it stands in the first walk once and in
 -- no other, or in just one of the others, once.
-use mathlib.Core.Path.{_≡_, refl, ap, _∙_}
+use mathlib.Core.Path.{_≡_, refl, ap, ap₂, _∙_}
 use mathlib.Core.Logic.{_⊎_, inl, inr}
 use mathlib.Core.List.{List, [], _∷_, _++_}
 use Prim.Native.Nat.{ℕ, zero, suc, _+_, _≤_, _<_}
 use native.Mathlib.Omega.{arith}
 use Rattle.lists.specs.Tests.{by-eq}
 use Rattle.lists.specs.Once.{count, count-same, count-other}
-use Rattle.lists.specs.Walk.{walk, walks}
+use Rattle.lists.specs.Walk.{hop, walk, walks}
 
 pub count-append : (i : ℕ) (xs ys : List ℕ) → count i (xs ++ ys) ≡ count i xs + count i ys
 unfolding count
@@ -17,6 +17,25 @@ count-append i (x ∷ xs) ys =
     by-eq i x
     (λ s. count-same i x (xs ++ ys) s ∙ (let a = count-same i x xs s in omega arith))
     (λ s. count-other i x (xs ++ ys) s ∙ (let a = count-other i x xs s in omega arith))
+
+-- a number stands in a longer list as often, or more
+pub count-cons : (i x : ℕ) (xs : List ℕ) → count i xs ≤ count i (x ∷ xs)
+count-cons i x xs =
+    by-eq i x
+    (λ s. let a = count-same i x xs s in omega arith)
+    (λ s. let a = count-other i x xs s in omega arith)
+
+-- a number that a walk leads to stands in it
+pub on-walk : (next : ℕ → ℕ) (k i j : ℕ) → j < k → 1 ≤ count (hop next j i) (walk next k i)
+unfolding walk hop
+on-walk next zero i j l = absurd (omega arith)
+on-walk next (suc k) i zero l =
+    let a = count-same i i (walk next k (next i)) refl in
+    omega arith
+on-walk next (suc k) i (suc j) l =
+    let a = on-walk next k (next i) j (omega arith) in
+    let b = count-cons (hop next j (next i)) i (walk next k (next i)) in
+    omega arith
 
 module _ (next size : ℕ → ℕ) (i : ℕ) where
   -- how often i stands in the walk of h
@@ -103,6 +122,39 @@ module _ (next size : ℕ → ℕ) (i : ℕ) where
         others = λ j l u d. o .others j (omega arith) (omega arith) d;
       }) in
       omega arith)
+
+  -- a number stands in all the walks as often as in any of them, or more
+  pub in-walks : (m h j : ℕ) → h ≤ j → j < h + m → times j ≤ count i (walks next size m h)
+  in-walks zero h j l u = absurd (omega arith)
+  in-walks (suc m) h j l u =
+      let s = walks-count m h in
+      by-eq j h
+      (λ t. let a : times j ≡ times h = ap times t in omega arith)
+      (λ t. let a = in-walks m (suc h) j (omega arith) (omega arith) in omega arith)
+
+-- Where the size of one head, t, goes from 0 to any other, the walks name what its walk names besides.
+module _ (next size size′ : ℕ → ℕ) where
+  pub walks-same : (m h : ℕ) → ((j : ℕ) → h ≤ j → j < h + m → size′ j ≡ size j) → walks next size′ m h ≡ walks next size m h
+  unfolding walks
+  walks-same zero h o = refl
+  walks-same (suc m) h o =
+      ap₂ (λ k r. walk next k h ++ r) (o h (omega arith) (omega arith)) (walks-same m (suc h) (λ j l u. o j (omega arith) (omega arith)))
+
+  module _ (t : ℕ) (none : size t ≡ 0) (others : (j : ℕ) → (j ≡ t → ⊥) → size′ j ≡ size j) (i : ℕ) where
+    pub walks-more : (m h : ℕ) → h ≤ t → t < h + m → count i (walks next size′ m h) ≡ count i (walk next (size′ t) t) + count i (walks next size m h)
+    unfolding walk count
+    walks-more zero h l u = absurd (omega arith)
+    walks-more (suc m) h l u =
+        let a : count i (walks next size′ (suc m) h) ≡ count i (walk next (size′ h) h) + count i (walks next size′ m (suc h)) = walks-count next size′ i m h in
+        let b : count i (walks next size (suc m) h) ≡ count i (walk next (size h) h) + count i (walks next size m (suc h)) = walks-count next size i m h in
+        by-eq h t
+        (λ e. let c : count i (walk next (size h) h) ≡ 0 = ap (λ k. count i (walk next k h)) (ap size e ∙ none) in
+        let d : count i (walk next (size′ h) h) ≡ count i (walk next (size′ t) t) = ap (λ k. count i (walk next (size′ k) k)) e in
+        let f : count i (walks next size′ m (suc h)) ≡ count i (walks next size m (suc h)) = ap (count i) (walks-same m (suc h) (λ j p q. others j (omega arith))) in
+        omega arith)
+        (λ e. let c : count i (walk next (size′ h) h) ≡ count i (walk next (size h) h) = ap (λ k. count i (walk next k h)) (others h e) in
+        let f : count i (walks next size′ m (suc h)) ≡ count i (walk next (size′ t) t) + count i (walks next size m (suc h)) = walks-more m (suc h) (omega arith) (omega arith) in
+        omega arith)
 
 -- THE LAW, for a first list and the walks of 0..n-1
 module _ (next size : ℕ → ℕ) (n : ℕ) (front : List ℕ) (i : ℕ) where

@@ -1,6 +1,6 @@
 -- Tests, which are Bools, as facts: by cases on a test, and what a test of tests says.
-use mathlib.Core.Path.{_≡_, refl}
-use mathlib.Core.Bool.{Bool, true, false, not, _&&_, _||_, true≢false, false≢true}
+use mathlib.Core.Path.{_≡_, refl, ap, _∙_}
+use mathlib.Core.Bool.{Bool, true, false, not, cond, _&&_, _||_, true≢false, false≢true}
 use Prim.Native.Nat.{ℕ}
 use borrow.Author.Tests.{eqb-true, eqb-false}
 use lib.Dec.{eqb}
@@ -49,3 +49,8 @@ implies false b f = refl
 pub false-not : (b : Bool) → b ≡ false → not b ≡ true
 false-not true e = absurd (true≢false e)
 false-not false e = refl
+
+-- two choices by the same test are the same where what they choose is
+pub cond-both : {A : Type 0} (b c : Bool) (x y u v : A) → b ≡ c → (c ≡ true → x ≡ u) → (c ≡ false → y ≡ v) → cond b x y ≡ cond c u v
+cond-both b true x y u v e f g = ap (λ t. cond t x y) e ∙ f refl
+cond-both b false x y u v e f g = ap (λ t. cond t x y) e ∙ g refl

@@ -1,11 +1,11 @@
 -- Walks along links: `next` gives the number that each number links to.
-use mathlib.Core.Path.{_≡_, refl, ap}
+use mathlib.Core.Path.{_≡_, refl, ap, ap₂, _∙_}
 use mathlib.Core.Bool.{Bool, true, false, not, _&&_}
-use mathlib.Core.List.{List, [], _∷_, _++_}
+use mathlib.Core.List.{List, [], _∷_, _++_, map}
 use Prim.Native.Nat.{ℕ, zero, suc, _+_, _-_, _≤_, _<_}
 use native.Mathlib.Omega.{arith}
 use borrow.Author.Tests.{not-true}
-use lib.ListN.{length}
+use lib.ListN.{length, getD}
 use Rattle.lists.specs.Tests.{and-left, and-right, and-both, false-not}
 use Rattle.lists.specs.Once.{Below, below-append}
 
@@ -36,6 +36,36 @@ module _ (next : ℕ → ℕ) where
   unfolding walk
   walk-below n h zero i l = tt
   walk-below n h (suc k) i l = (l, walk-below n h k (next i) (h i l))
+
+  pub hop-below : (n : ℕ) → ((i : ℕ) → i < n → next i < n) → (k i : ℕ) → i < n → hop k i < n
+  unfolding hop
+  hop-below n h zero i l = l
+  hop-below n h (suc k) i l = hop-below n h k (next i) (h i l)
+
+  -- a walk of a + b numbers is a walk of a, and then one of b from where that leads
+  pub walk-split : (a b i : ℕ) → walk (a + b) i ≡ walk a i ++ walk b (hop a i)
+  unfolding walk hop
+  walk-split zero b i =
+      let e : 0 + b ≡ b = omega arith in
+      ap (λ k. walk k i) e
+  walk-split (suc a) b i =
+      let e : suc a + b ≡ suc (a + b) = omega arith in
+      ap (λ k. walk k i) e ∙ ap (λ l. i ∷ l) (walk-split a b (next i))
+
+  module _ {A : Type 0} (f : ℕ → A) where
+    -- where f's values along a walk are a list's entries, they are the list
+    pub map-walk : (d : A) (xs : List A) (i : ℕ) → ((j : ℕ) → j < length xs → f (hop j i) ≡ getD xs j d) → map f (walk (length xs) i) ≡ xs
+    unfolding walk hop
+    map-walk d [] i h = refl
+    map-walk d (x ∷ xs) i h =
+        ap₂ (λ (y : A) (r : List A). y ∷ r) (h 0 (omega arith)) (map-walk d xs (next i) (λ j l. h (suc j) (omega arith)))
+
+    -- two functions that agree along a walk have the same values there
+    pub map-alike : (g : ℕ → A) (k i : ℕ) → ((j : ℕ) → j < k → f (hop j i) ≡ g (hop j i)) → map f (walk k i) ≡ map g (walk k i)
+    unfolding walk hop
+    map-alike g zero i h = refl
+    map-alike g (suc k) i h =
+        ap₂ (λ (y : A) (r : List A). y ∷ r) (h 0 (omega arith)) (map-alike g k (next i) (λ j l. h (suc j) (omega arith)))
 
 -- Of the k numbers from i on `goes` holds at each but the last: a walk that ends where it says it ends.
 unfoldable pub ending : (ℕ → Bool) → (ℕ → ℕ) → ℕ → ℕ → Bool

@@ -8,6 +8,7 @@ use native.Mathlib.Omega.{arith}
 use lib.ListN.{length, getD, take, drop, replicate, length-append, length-replicate, replicate-append-replicate}
 use lib.Seq.{sets, sets-eq, take-at, drop-at, drop-append-add, getD-append-seam}
 use Rattle.lists.specs.Pick.{rising}
+use Rattle.lists.specs.PickLaws.{getD-same}
 use Rattle.virtio.specs.declared.Desc.{Desc}
 use Rattle.virtio.specs.Desc.{noDesc, noBuffer}
 use Rattle.rules.specs.Record.{Tables}
@@ -29,11 +30,6 @@ take-same d (suc k) (suc n) h = ap (λ r. d ∷ r) (take-same d k n (omega arith
 
 pub cut-same : {A : Type 0} (d : A) (from count n : ℕ) → from + count ≤ n → cut from count (replicate n d) ≡ replicate count d
 cut-same d from count n h = rw (drop-same d from n, take-same d count (n - from) (omega arith))
-
-getD-same : {A : Type 0} (d : A) (n i : ℕ) → getD (replicate n d) i d ≡ d
-getD-same d zero i = refl
-getD-same d (suc n) zero = refl
-getD-same d (suc n) (suc i) = getD-same d n i
 
 map-same : {A : Type 0} (f : ℕ → A) (d : A) → ((i : ℕ) → f i ≡ d) → (k a : ℕ) → map f (rising k a) ≡ replicate k d
 unfolding rising

@@ -1,0 +1,32 @@
+-- What new is asked and what it answers, and what available_desc answers, as the rules' records.
+use mathlib.Core.List.{List}
+use Prim.Native.Nat.{ℕ}
+use Rattle.virtio.specs.Memory.{Memory}
+use Rattle.rules.specs.Answer.{Outcome}
+use Rattle.rules.specs.New as rule
+use Rattle.record.specs.declared.Ask.{Ask}
+use Rattle.record.specs.declared.Made.{Made}
+use Rattle.record.specs.declared.Told.{Told}
+use Rattle.record.specs.declared.Queue.{Queue}
+use Rattle.record.specs.Abs.{abs}
+
+abbrev pub askOf : Ask → rule.Ask
+askOf a = record {
+  n = a .n;
+  in-use = a .«in_use»;
+  most = a .most;
+  modes = a .modes;
+  base-one = a .«base_one»;
+  base-two = a .«base_two»;
+  base-pool = a .«base_pool»;
+}
+
+abbrev pub memory : List ℕ → List ℕ → List ℕ → Memory
+memory one two pool = record { one = one; two = two; pool = pool }
+
+abbrev pub madeOf : Made → Memory → rule.Made
+madeOf r m =
+    record { answer = r .answer; table = r .table; avail = r .avail; used = r .used; queue = abs (r .queue); memory = m }
+
+abbrev pub toldOf : Told → Queue → Memory → Outcome
+toldOf r q m = record { answer = r .answer; value = r .value; steps = 0; queue = abs q; memory = m }

@@ -1,0 +1,8 @@
+-- The record as a struct, and what its calls answer, as the rules' records.
+--   Abs     the rules' record of the struct; it fixes the struct
+--   Asked   new's question and answer
+--   Fine    new by its refusal, and what is so where it refuses nothing
+pub mod Abs
+pub mod Asked
+pub mod Fine
+pub mod Counted
