@@ -41,6 +41,7 @@ fn line(label: &[u8], a: Ask, made: Made, one: u64, two: u64) {
     word(b" n=", a.n as u64);
     word(b" legacy=", flag(modes.legacy));
     word(b" indirect=", flag(modes.indirect));
+    word(b" event=", flag(modes.event_idx));
     word(b" answer=", made.answer as u64);
     word(b" table=", made.table);
     word(b" avail=", made.avail);
@@ -48,6 +49,12 @@ fn line(label: &[u8], a: Ask, made: Made, one: u64, two: u64) {
     word(b" one=", one);
     word(b" two=", two);
     let queue = made.queue;
+    let core = queue.core;
+    let noted = core.modes;
+    word(b" modes=", flag(noted.indirect));
+    word(b",", flag(noted.event_idx));
+    word(b",", flag(noted.legacy));
+    word(b" base=", core.base);
     word(b" broken=", queue.broken() as u64);
     let free = queue.available_desc();
     word(b" desc=", free.answer as u64);
@@ -108,61 +115,44 @@ fn ask(n: u32, legacy: bool, indirect: bool) -> Ask {
     }
 }
 
-// A size, a layout and a mode: good, each region one byte short, each base off its page, and each at the top.
+// A size, a layout and a mode: good, with event indices too, and each region one byte longer or shorter than needed.
 fn memory_runs(n: u16, legacy: bool, indirect: bool) {
     let a = ask(n as u32, legacy, indirect);
     let need = needed(n, legacy, indirect);
-    let one = need.one;
-    let two = need.two;
-    let pool = need.pool;
     run(b"good", a, need);
-    if one < 8193 {
-        run(
-            b"one+1",
-            a,
-            Lent {
-                one: one + 1,
-                two,
-                pool,
-            },
-        );
-    }
-    if 0 < one {
-        run(
-            b"one-1",
-            a,
-            Lent {
-                one: one - 1,
-                two,
-                pool,
-            },
-        );
-    }
-    if 0 < two {
-        run(
-            b"two-1",
-            a,
-            Lent {
-                one,
-                two: two - 1,
-                pool,
-            },
-        );
-    }
-    if 0 < pool {
-        run(
-            b"pool-1",
-            a,
-            Lent {
-                one,
-                two,
-                pool: pool - 1,
-            },
-        );
-    }
+    let mut modes = a.modes;
+    modes.event_idx = true;
+    let mut b = a;
+    b.modes = modes;
+    run(b"events", b, need);
+    length_runs(a, need);
     base_runs(a, need);
+    top_runs(a, need);
 }
 
+fn length_runs(a: Ask, need: Lent) {
+    let mut l = need;
+    if need.one < 8193 {
+        l.one = need.one + 1;
+        run(b"one+1", a, l);
+    }
+    if 0 < need.one {
+        l.one = need.one - 1;
+        run(b"one-1", a, l);
+    }
+    l = need;
+    if 0 < need.two {
+        l.two = need.two - 1;
+        run(b"two-1", a, l);
+    }
+    l = need;
+    if 0 < need.pool {
+        l.pool = need.pool - 1;
+        run(b"pool-1", a, l);
+    }
+}
+
+// Each base off its page.
 fn base_runs(a: Ask, need: Lent) {
     let mut b = a;
     b.base_one = 8193;
@@ -173,19 +163,32 @@ fn base_runs(a: Ask, need: Lent) {
     b = a;
     b.base_pool = 65537;
     run(b"pool off", b, need);
-    b = a;
+}
+
+// Each base at the last page; and, where the need is whole pages, region one and the pool so that they end at 2^64, and a page above that.
+fn top_runs(a: Ask, need: Lent) {
+    let mut b = a;
     b.base_one = TOP;
     run(b"one top", b, need);
     b.base_one = TOP - 4096;
-    run(b"one below", b, need);
+    run(b"one end", b, need);
     b = a;
     b.base_two = TOP;
     run(b"two top", b, need);
     b = a;
     b.base_pool = TOP;
     run(b"pool top", b, need);
-    b.base_pool = TOP - 61440;
-    run(b"pool below", b, need);
+    let pool = need.pool;
+    if pool <= 4096 {
+        return;
+    }
+    if pool <= 65536 {
+        let end = TOP - (pool as u64) + 4096;
+        b.base_pool = end;
+        run(b"pool end", b, need);
+        b.base_pool = end + 4096;
+        run(b"pool above", b, need);
+    }
 }
 
 // What is refused before memory is looked at, and in which order.

@@ -4,13 +4,14 @@ use mathlib.Core.Bool.{false}
 use Prim.Native.Nat.{ℕ}
 use Rattle.rules.specs.declared.Open.the-variants.{Idle}
 use Rattle.rules.specs.Record as model
+use Rattle.rules.specs.New.{limit}
 use Rattle.views.specs.declared.Core.{Core}
 use Rattle.views.specs.Tables.{tablesOf, queueOf}
 use Rattle.views.specs.Fixed.{Stored, words-fixed, lens-fixed, halves-fixed, sides-fixed}
 use Rattle.record.specs.declared.Queue.{Queue}
 
 abbrev pub room : ℕ
-room = 64
+room = limit
 
 abbrev pub abs : Queue → model.Queue
 abs q = queueOf (q .core) (tablesOf room (q .words) (q .lens) (q .halves) (q .sides))

@@ -1,4 +1,5 @@
 -- What new is asked and what it answers, and what available_desc answers, as the rules' records.
+use mathlib.Core.Path.{_≡_, ap}
 use mathlib.Core.List.{List}
 use Prim.Native.Nat.{ℕ}
 use Rattle.virtio.specs.Memory.{Memory}
@@ -8,7 +9,7 @@ use Rattle.record.specs.declared.Ask.{Ask}
 use Rattle.record.specs.declared.Made.{Made}
 use Rattle.record.specs.declared.Told.{Told}
 use Rattle.record.specs.declared.Queue.{Queue}
-use Rattle.record.specs.Abs.{abs}
+use Rattle.record.specs.Abs.{abs, Arrays, abs-fixes}
 
 abbrev pub askOf : Ask → rule.Ask
 askOf a = record {
@@ -30,3 +31,15 @@ madeOf r m =
 
 abbrev pub toldOf : Told → Queue → Memory → Outcome
 toldOf r q m = record { answer = r .answer; value = r .value; steps = 0; queue = abs q; memory = m }
+
+-- ---- any two outcomes that these equations permit are one: an answer of new and the memory that it leaves, an answer of available_desc
+
+pub made-one : (r s : Made) (m l : Memory) → Arrays (r .queue) → Arrays (s .queue) → madeOf r m ≡ madeOf s l → (r ≡ s) × (m ≡ l)
+made-one r s m l a b e =
+    let q : r .queue ≡ s .queue = abs-fixes (r .queue) (s .queue) a b (ap (λ (x : rule.Made). x .queue) e) in (
+      λ i. record { answer = e i .answer; table = e i .table; avail = e i .avail; used = e i .used; queue = q i },
+      ap (λ (x : rule.Made). x .memory) e,
+    )
+
+pub told-one : (r s : Told) (q : Queue) (m : Memory) → toldOf r q m ≡ toldOf s q m → r ≡ s
+told-one r s q m e = λ i. record { answer = e i .answer; value = e i .value }

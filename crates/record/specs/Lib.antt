@@ -2,6 +2,7 @@
 --   Abs     the rules' record of the struct; it fixes the struct
 --   Asked   new's question and answer
 --   Fine    new by its refusal, and what is so where it refuses nothing
+--   Counted the outcomes of available_desc
 pub mod Abs
 pub mod Asked
 pub mod Fine

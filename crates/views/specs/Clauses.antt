@@ -105,9 +105,6 @@ module _ (c : Core) (r : ℕ) (words lens halves : List ℕ) (sides : List Bool)
   unfolding everyHead
   buffer-view = ap (λ (f : ℕ → Bool). every (λ h. not (heads (c .n) noted h) || f h) (c .n) 0) (fun-ext sound-at)
 
-  pub count-view : outCount q ≡ tally (heads (c .n) noted) (c .n) 0
-  count-view = refl
-
   pub call-view : callOk q (c .call) ≡ callFits (heads (c .n) noted) (sizeAt flags len noted) (c .n - c .«num_used») (c .modes .«event_idx») (c .call)
   call-view =
       ap (λ (f : ℕ → Desc). callFits (heads (c .n) noted) (λ h. cond (hasIndirect (f h)) (f h .len / 16) (at noted h)) (c .n - c .«num_used») (c .modes .«event_idx») (c .call)) descs
