@@ -20,7 +20,7 @@ use Rattle.virtio.specs.Desc.{noBuffer, hasNext, hasWrite, hasIndirect, bufferO
 use Rattle.virtio.specs.Chain.{allOutputs, inOrder}
 use Rattle.virtio.specs.Layout.{needPool}
 use Rattle.rules.specs.Record.{Queue, descOf, nextOf, buffersOf, slotAddr, isAdd}
-use Rattle.rules.specs.WellFormed.{sizeOk, baseOk, broken, noEmpty, soundList, listed, callFits, everyHead, named, outCount, callOk, end-clause, indirect-clause, buffer-clause}
+use Rattle.rules.specs.WellFormed.{sizeOk, baseOk, broken, noEmpty, soundList, listed, callFits, everyHead, named, callOk, end-clause, indirect-clause, buffer-clause}
 use Rattle.views.specs.declared.Core.{Core}
 use Rattle.views.specs.Views.{at, goes, heads, refers, flagged, described, piece, buffersAt, sizeAt, Short}
 use Rattle.views.specs.Tables.{ofTable, ofLists, nextsIn, flagsIn, notedIn, sidesIn, descIn, entryIn, tablesOf, desc-is, entry-is, queueOf}
