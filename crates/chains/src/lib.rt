@@ -1,14 +1,15 @@
 // Clauses of a well-formed record (document 01, "The record") that walk: the free list and the outstanding chains name each descriptor once, chains end
 // where they say, and how many there are. Each is a small function over lent slices, one for each field of the private tables.
 ghost use mathlib.Core.Path.{_≡_};
-ghost use mathlib.Core.Bool.{not, _||_};
-ghost use mathlib.Core.List.{_++_};
-ghost use Prim.Native.Nat.{_-_, _≤_, _<_};
+ghost use mathlib.Core.Bool.{false, true, not, cond, _||_};
+ghost use mathlib.Core.List.{List, _++_};
+ghost use Prim.Native.Nat.{ℕ, _-_, _≤_, _<_};
 ghost use lib.Dec.{ltb};
-ghost use lib.ListN.{length};
+ghost use lib.ListN.{length, getD, set};
 ghost use Rattle.lists.specs.Pick.{every, tally};
 ghost use Rattle.lists.specs.Walk.{walk, walks, ending};
 ghost use Rattle.lists.specs.Once.{onceEach};
+ghost use Rattle.lists.specs.Visit.{visit};
 ghost use Rattle.views.specs.Views.{at, goes, heads, Closed};
 
 // Whether every next of the table is below n.
@@ -26,6 +27,46 @@ pub fn nexts_below(n: u16, next: &[u16]) -> bool
     true
 }
 
+// Marks i, and answers whether it was not marked before.
+fn mark(seen: &mut [bool], i: usize) -> bool
+    requires { ⌜ i < length (now seen) ⌝ }
+    ensures { λ r. ⌜ (r ≡ not (getD (now (seen .entry)) i false)) × (now (seen .exit) ≡ set (now (seen .entry)) i true) ⌝ }
+{
+    let first = !seen[i];
+    seen[i] = true;
+    first
+}
+
+// What a walk leaves: whether it met no descriptor again, and how many names are still to come.
+struct Walked {
+    ok: bool,
+    left: usize,
+}
+
+// The free list: marks its k descriptors from i on, and ends at the first that was marked before.
+fn free_walk(n: u16, next: &[u16], seen: &mut [bool], names: usize, k: u16, i: usize) -> Walked
+    requires { ⌜ Closed n (now next) ⌝ }
+    requires { ⌜ (n ≤ length (now seen)) × (i < n) ⌝ }
+    ensures { λ r. ⌜ ((rest : List ℕ) → visit (now (seen .entry)) names (walk (at (now (next .entry))) k i ++ rest) ≡ cond (r .ok) (visit (now (seen .exit)) (r .left) rest) false) ⌝ }
+{
+    let mut left = names;
+    let mut m = k;
+    let mut j = i;
+    while 0 < m {
+        if left == 0 {
+            return Walked { ok: false, left };
+        }
+        if mark(seen, j) {
+            left -= 1;
+            m -= 1;
+            j = next[j] as usize;
+        } else {
+            return Walked { ok: false, left };
+        }
+    }
+    Walked { ok: true, left }
+}
+
 // Whether free list and chains together have each descriptor in one place. A descriptor met again ends the walk, out of both loops.
 pub fn once(n: u16, used: u16, free: u16, next: &[u16], noted: &[u16]) -> bool
     requires { ⌜ n ≤ 64 ⌝ }
@@ -36,21 +77,11 @@ pub fn once(n: u16, used: u16, free: u16, next: &[u16], noted: &[u16]) -> bool
 {
     let size = n as usize;
     let mut seen = [false; 64];
-    let mut left = size;
-    let mut k = n - used;
-    let mut i = free as usize;
-    while 0 < k {
-        if left == 0 {
-            return false;
-        }
-        if seen[i] {
-            return false;
-        }
-        seen[i] = true;
-        left -= 1;
-        k -= 1;
-        i = next[i] as usize;
+    let freed = free_walk(n, next, &mut seen, size, n - used, free as usize);
+    if !freed.ok {
+        return false;
     }
+    let mut left = freed.left;
     let mut h = 0;
     'heads: while h < size {
         let mut m = noted[h];

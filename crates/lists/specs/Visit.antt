@@ -35,9 +35,9 @@ unfolding visit
 visit-next seen zero x xs p h = absurd (omega arith)
 visit-next seen (suc left) x xs p h = rw h (ap (λ n. visit (set seen x true) n xs) (omega arith))
 
--- ---- nested loops over walks
+-- ---- one walk, and then what comes after it
 
-module _ (next size : ℕ → ℕ) (n : ℕ) where
+module _ (next : ℕ → ℕ) where
   walk-next : (k i : ℕ) → 0 < k → walk next k i ≡ i ∷ walk next (k - 1) (next i)
   unfolding walk
   walk-next zero i p = absurd (omega arith)
@@ -45,10 +45,26 @@ module _ (next size : ℕ → ℕ) (n : ℕ) where
       let e : k ≡ suc k - 1 = omega arith in
       ap (λ m. i ∷ walk next m (next i)) e
 
-  -- what is still to be answered: on the first walk, with k to go from i; at head h; in the walk of head h, with m to go from j
-  unfoldable pub firstRest : List Bool → ℕ → ℕ → ℕ → Bool
-  firstRest seen left k i = visit seen left (walk next k i ++ walks next size n 0)
+  -- with m to go from j: all met; none left; met before; and on
+  module _ (seen : List Bool) (left m j : ℕ) (rest : List ℕ) where
+    pub walk-over : m ≡ 0 → visit seen left (walk next m j ++ rest) ≡ visit seen left rest
+    unfolding walk
+    walk-over e = rw (e, walk)
 
+    module _ (p : 0 < m) where
+      pub walk-none : left ≡ 0 → visit seen left (walk next m j ++ rest) ≡ false
+      walk-none e = rw (walk-next m j p, visit-none seen left j _ e)
+
+      pub walk-seen : getD seen j false ≡ true → visit seen left (walk next m j ++ rest) ≡ false
+      walk-seen e = rw (walk-next m j p, visit-seen seen left j _ e)
+
+      pub walk-met : 0 < left → getD seen j false ≡ false → visit seen left (walk next m j ++ rest) ≡ visit (set seen j true) (left - 1) (walk next (m - 1) (next j) ++ rest)
+      walk-met l e = rw (walk-next m j p, visit-next seen left j _ l e)
+
+-- ---- nested loops over the walks of 0..n-1
+
+module _ (next size : ℕ → ℕ) (n : ℕ) where
+  -- what is still to be answered: at head h; in the walk of head h, with m to go from j
   unfoldable pub headsRest : List Bool → ℕ → ℕ → Bool
   headsRest seen left h = visit seen left (walks next size (n - h) h)
 
@@ -56,22 +72,9 @@ module _ (next size : ℕ → ℕ) (n : ℕ) where
   linkRest seen left h m j = visit seen left (walk next m j ++ walks next size (n - (h + 1)) (h + 1))
 
   module _ (seen : List Bool) (left : ℕ) where
-    pub first-done : (k i : ℕ) → k ≡ 0 → firstRest seen left k i ≡ headsRest seen left 0
-    unfolding firstRest headsRest walk
-    first-done k i e = rw (e, walk, sub-zero)
-
-    module _ (k i : ℕ) (p : 0 < k) where
-      pub first-none : left ≡ 0 → firstRest seen left k i ≡ false
-      unfolding firstRest
-      first-none e = rw (walk-next k i p, visit-none seen left i _ e)
-
-      pub first-seen : getD seen i false ≡ true → firstRest seen left k i ≡ false
-      unfolding firstRest
-      first-seen h = rw (walk-next k i p, visit-seen seen left i _ h)
-
-      pub first-next : 0 < left → getD seen i false ≡ false → firstRest seen left k i ≡ firstRest (set seen i true) (left - 1) (k - 1) (next i)
-      unfolding firstRest
-      first-next l h = rw (walk-next k i p, visit-next seen left i _ l h)
+    pub heads-start : visit seen left (walks next size n 0) ≡ headsRest seen left 0
+    unfolding headsRest
+    heads-start = rw sub-zero
 
     module _ (h : ℕ) where
       pub heads-enter : h < n → headsRest seen left h ≡ linkRest seen left h (size h) h
@@ -87,21 +90,21 @@ module _ (next size : ℕ → ℕ) (n : ℕ) where
           rw (e, walks)
 
       pub link-done : (m j : ℕ) → m ≡ 0 → linkRest seen left h m j ≡ headsRest seen left (h + 1)
-      unfolding linkRest headsRest walk
-      link-done m j e = rw (e, walk)
+      unfolding linkRest headsRest
+      link-done m j e = walk-over next seen left m j _ e
 
       module _ (m j : ℕ) (p : 0 < m) where
         pub link-none : left ≡ 0 → linkRest seen left h m j ≡ false
         unfolding linkRest
-        link-none e = rw (walk-next m j p, visit-none seen left j _ e)
+        link-none e = walk-none next seen left m j _ p e
 
         pub link-seen : getD seen j false ≡ true → linkRest seen left h m j ≡ false
         unfolding linkRest
-        link-seen e = rw (walk-next m j p, visit-seen seen left j _ e)
+        link-seen e = walk-seen next seen left m j _ p e
 
         pub link-next : 0 < left → getD seen j false ≡ false → linkRest seen left h m j ≡ linkRest (set seen j true) (left - 1) h (m - 1) (next j)
         unfolding linkRest
-        link-next l e = rw (walk-next m j p, visit-next seen left j _ l e)
+        link-next l e = walk-met next seen left m j _ p l e
 
 -- ---- that is what `onceEach` says
 
