@@ -50,15 +50,15 @@ fn free_walk(n: u16, next: &[u16], seen: &mut [bool], names: usize, k: u16, i: u
     ensures { λ r. ⌜ ((rest : List ℕ) → visit (now (seen .entry)) names (walk (at (now (next .entry))) k i ++ rest) ≡ cond (r .ok) (visit (now (seen .exit)) (r .left) rest) false) ⌝ }
 {
     let mut left = names;
-    let mut m = k;
+    let mut more = k;
     let mut j = i;
-    while 0 < m {
+    while 0 < more {
         if left == 0 {
             return Walked { ok: false, left };
         }
         if mark(seen, j) {
             left -= 1;
-            m -= 1;
+            more -= 1;
             j = next[j] as usize;
         } else {
             return Walked { ok: false, left };

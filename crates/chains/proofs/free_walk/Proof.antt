@@ -15,11 +15,11 @@ use Rattle.chains.proofs.free_walk.Statement.{statement}
 use Rattle.chains.proofs.free_walk.Tie as tie
 
 abbrev Inv-loop : tie.InvT-loop
-Inv-loop n next seen₀ names k i left₀ m₀ j₀ seen left m j =
-    (j < n) × (length seen ≡ length seen₀) × ((rest : List ℕ) → visit seen₀ names (walk (at next) k i ++ rest) ≡ visit seen left (walk (at next) m j ++ rest))
+Inv-loop n next seen₀ names k i left₀ more₀ j₀ seen left more j =
+    (j < n) × (length seen ≡ length seen₀) × ((rest : List ℕ) → visit seen₀ names (walk (at next) k i ++ rest) ≡ visit seen left (walk (at next) more j ++ rest))
 
 abbrev μ-loop : tie.MeasureT-loop
-μ-loop n next seen₀ names k i left₀ m₀ j₀ seen left m j = m
+μ-loop n next seen₀ names k i left₀ more₀ j₀ seen left more j = more
 
 loop-holds : tie.Need-loop-holds Inv-loop μ-loop
 loop-holds c = (omega arith, refl, λ rest. refl)
@@ -31,7 +31,7 @@ returns : tie.Need-returns Inv-loop μ-loop
 returns c =
     let l = c .before .before .loop in
     let next : List ℕ = c .before .before .before .before .before .args .next .now in
-    λ rest. l .inv .2 rest ∙ walk-none (at next) (l .seen) (l .left) (l .m) (l .j) rest (c .before .loop-test .taken) (c .if1 .taken)
+    λ rest. l .inv .2 rest ∙ walk-none (at next) (l .seen) (l .left) (l .more) (l .j) rest (c .before .loop-test .taken) (c .if1 .taken)
 
 mark-requires : tie.Need-mark-requires Inv-loop μ-loop
 mark-requires c κs = search needs
@@ -39,8 +39,8 @@ mark-requires c κs = search needs
 sub-left : tie.Need-sub-left Inv-loop μ-loop
 sub-left c = search needs
 
-sub-m : tie.Need-sub-m Inv-loop μ-loop
-sub-m c = search needs
+sub-more : tie.Need-sub-more Inv-loop μ-loop
+sub-more c = search needs
 
 mul-j : tie.Need-mul-j Inv-loop μ-loop
 mul-j c = search needs
@@ -65,8 +65,8 @@ loop-again c =
       closed .nexts (l .j) (l .inv .0),
       ap length (marks .1) ∙ length-set (l .seen) (l .j) true ∙ l .inv .1,
       λ rest. l .inv .2 rest
-          ∙ walk-met (at next) (l .seen) (l .left) (l .m) (l .j) rest (omega arith) (omega arith) clear
-          ∙ ap (λ x. visit x (l .left - 1) (walk (at next) (l .m - 1) (at next (l .j)) ++ rest)) (sym (marks .1)),
+          ∙ walk-met (at next) (l .seen) (l .left) (l .more) (l .j) rest (omega arith) (omega arith) clear
+          ∙ ap (λ x. visit x (l .left - 1) (walk (at next) (l .more - 1) (at next (l .j)) ++ rest)) (sym (marks .1)),
     )
 
 same-length-2 : tie.Need-same-length-2 Inv-loop μ-loop
@@ -77,7 +77,7 @@ returns-2 c =
     let l = c .before .before .before .before .before .before .before .loop in
     let next : List ℕ = c .before .before .before .before .before .before .before .before .before .before .args .next .now in
     let met : getD (l .seen) (l .j) false ≡ true = not-false (getD (l .seen) (l .j) false) (sym (c .before .before .before .mark .ensures .0) ∙ c .if2 .left) in
-    λ rest. l .inv .2 rest ∙ walk-seen (at next) (l .seen) (l .left) (l .m) (l .j) rest (c .before .before .before .before .before .before .loop-test .taken) met
+    λ rest. l .inv .2 rest ∙ walk-seen (at next) (l .seen) (l .left) (l .more) (l .j) rest (c .before .before .before .before .before .before .loop-test .taken) met
 
 same-length-3 : tie.Need-same-length-3 Inv-loop μ-loop
 same-length-3 c = search needs
@@ -86,7 +86,7 @@ returns-3 : tie.Need-returns-3 Inv-loop μ-loop
 returns-3 c =
     let l = c .before .loop in
     let next : List ℕ = c .before .before .before .before .args .next .now in
-    λ rest. l .inv .2 rest ∙ walk-over (at next) (l .seen) (l .left) (l .m) (l .j) rest (omega arith)
+    λ rest. l .inv .2 rest ∙ walk-over (at next) (l .seen) (l .left) (l .more) (l .j) rest (omega arith)
 
 pub free-walk-spec : {M : Type 1} → statement M
 free-walk-spec =
@@ -99,7 +99,7 @@ free-walk-spec =
     returns
     mark-requires
     sub-left
-    sub-m
+    sub-more
     mul-j
     shared-slice-read-j
     cast-j
