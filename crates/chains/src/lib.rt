@@ -37,13 +37,13 @@ fn mark(seen: &mut [bool], i: usize) -> bool
     first
 }
 
-// What a walk leaves: whether it met no descriptor again, and how many names are still to come.
+// What a walk leaves: whether each descriptor was met for the first time, with names left for it, and how many names are still to come.
 struct Walked {
     ok: bool,
     left: usize,
 }
 
-// The free list: marks its k descriptors from i on, and ends at the first that was marked before.
+// The free list: marks its k descriptors from i on, and ends at the first that was marked before or has no name left for it.
 fn free_walk(n: u16, next: &[u16], seen: &mut [bool], names: usize, k: u16, i: usize) -> Walked
     requires { ⌜ Closed n (now next) ⌝ }
     requires { ⌜ (n ≤ length (now seen)) × (i < n) ⌝ }

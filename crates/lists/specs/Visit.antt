@@ -1,4 +1,4 @@
--- Names met one by one and marked: the bridge from `onceEach` to nested loops over walks that stop at the first repeat. What is still to be answered
+-- Names met one by one and marked: the bridge from `onceEach` to loops over walks, single and nested, that stop at the first repeat. What is still to be answered
 -- is told by the names that are still to come, so that a loop's invariant says nothing of those passed.
 use mathlib.Core.Path.{_≡_, refl, sym, ap, _∙_}
 use mathlib.Core.List.{List, [], _∷_, _++_}
