@@ -31,6 +31,18 @@ module _ (next : ℕ → ℕ) where
   hop-next zero i = refl
   hop-next (suc k) i = hop-next k (next i)
 
+  -- a loop's turn, where links are left to follow, and its end
+  pub hop-turn : (k i : ℕ) → 0 < k → hop k i ≡ hop (k - 1) (next i)
+  unfolding hop
+  hop-turn zero i l = absurd (omega arith)
+  hop-turn (suc k) i l =
+      let e : k ≡ suc k - 1 = omega arith in
+      ap (λ j. hop j (next i)) e
+
+  pub hop-none : (k i : ℕ) → k ≡ 0 → hop k i ≡ i
+  unfolding hop
+  hop-none k i e = rw e
+
   -- where links stay below n, so do the numbers met
   pub walk-below : (n : ℕ) → ((i : ℕ) → i < n → next i < n) → (k i : ℕ) → i < n → Below n (walk k i)
   unfolding walk

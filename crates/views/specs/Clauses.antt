@@ -79,22 +79,24 @@ module _ (c : Core) (r : ℕ) (words lens halves : List ℕ) (sides : List Bool)
   next-at i = ap (λ (d : Desc). d .next) (desc-is r words lens halves sides i)
 
   pub once-view : onceEach (c .n) (named q) ≡ onceEach (c .n) (walk (at next) (c .n - c .«num_used») (c .«free_head») ++ walks (at next) (at noted) (c .n) 0)
+  unfolding tablesOf
   once-view =
       ap (λ (f : ℕ → Desc). onceEach (c .n) (walk (λ i. f i .next) (c .n - c .«num_used») (c .«free_head») ++ walks (λ i. f i .next) (at noted) (c .n) 0)) descs
 
   pub end-view : end-clause q ≡ every (λ h. not (heads (c .n) noted h) || ending (goes flags) (at next) (at noted h) h) (c .n) 0
-  unfolding everyHead
+  unfolding everyHead tablesOf
   end-view =
       ap (λ (f : ℕ → Desc). every (λ h. not (heads (c .n) noted h) || ending (λ i. hasNext (f i)) (λ i. f i .next) (at noted h) h) (c .n) 0) descs
 
   pub indirect-view : indirect-clause q
       ≡ every (λ h. not (heads (c .n) noted h) || (not (refers flags h) || listed (c .modes .indirect) (c .n) (slotAddr q h) (described (at (ofTable r words) h) (at len h) (at flags h)))) (c .n) 0
-  unfolding everyHead
+  unfolding everyHead tablesOf
   indirect-view =
       ap (λ (f : ℕ → Desc). every (λ h. not (heads (c .n) noted h) || (not (hasIndirect (f h)) || listed (c .modes .indirect) (c .n) (slotAddr q h) (f h))) (c .n) 0) descs
 
   -- the buffers at head h, by the tables and by the views, are sound or not alike
   sound-at : (h : ℕ) → soundList (buffersOf q h) ≡ soundList (buffersAt (c .n) next flags len noted (ofLists r lens) (sidesIn r sides) h)
+  unfolding tablesOf
   sound-at h =
       ap₂ (λ (f : ℕ → Desc) (g : ℕ → Buffer). soundList (cond (hasIndirect (f h)) (map g (rising (f h .len / 16) (c .n * h))) (map (λ i. bufferOf (f i)) (walk (λ i. f i .next) (at noted h) h)))) descs kept
       ∙ either (refers flags h) _ _ _ _
@@ -102,10 +104,11 @@ module _ (c : Core) (r : ℕ) (words lens halves : List ℕ) (sides : List Bool)
       (sound-alike (λ i. bufferOf (descIn r words lens halves sides i)) (λ i. piece (at len i) (hasWrite (flagged (at flags i)))) (λ i. refl) (λ i. refl) (walk (at next) (at noted h) h))
 
   pub buffer-view : buffer-clause q ≡ every (λ h. not (heads (c .n) noted h) || soundList (buffersAt (c .n) next flags len noted (ofLists r lens) (sidesIn r sides) h)) (c .n) 0
-  unfolding everyHead
+  unfolding everyHead tablesOf
   buffer-view = ap (λ (f : ℕ → Bool). every (λ h. not (heads (c .n) noted h) || f h) (c .n) 0) (fun-ext sound-at)
 
   pub call-view : callOk q (c .call) ≡ callFits (heads (c .n) noted) (sizeAt flags len noted) (c .n - c .«num_used») (c .modes .«event_idx») (c .call)
+  unfolding tablesOf
   call-view =
       ap (λ (f : ℕ → Desc). callFits (heads (c .n) noted) (λ h. cond (hasIndirect (f h)) (f h .len / 16) (at noted h)) (c .n - c .«num_used») (c .modes .«event_idx») (c .call)) descs
 
@@ -154,7 +157,7 @@ module _ (c : Core) (r : ℕ) (words lens halves : List ℕ) (sides : List Bool)
 
   -- THE LAW: the first broken clause of the record is the first broken one over the views
   pub broken-view : broken (queueOf c (tablesOf r words lens halves sides)) ≡ first (plainTests c ++ (linkTestsIn ++ (headTestsIn ++ callTestsIn)))
-  unfolding broken
+  unfolding broken tablesOf
   broken-view =
       rw (nexts-view c r words lens halves sides, once-view c r words lens halves sides, end-view c r words lens halves sides, indirect-view c r words lens halves sides, buffer-view c r words lens halves sides, call-view c r words lens halves sides)
 

@@ -64,6 +64,7 @@ module _ (r : ℕ) (words lens halves words′ lens′ halves′ : List ℕ) (si
       both-fix 0 r (r * r) lens lens′ (s .lens-of) (t .lens-of) (λ i. ap (λ (d : Desc). d .len) (descs i)) (λ j. ap (λ (b : Buffer). b .len) (entries j))
 
   pub halves-fixed : halves ≡ halves′
+  unfolding tablesOf
   halves-fixed =
       ext-getD 0 halves halves′ (s .halves-of ∙ sym (t .halves-of))
       (λ i l. by-test (ltb i r)

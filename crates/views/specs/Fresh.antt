@@ -105,6 +105,7 @@ module _ (r : ℕ) where
     }
 
     blank : blankTables halves ≡ record { shadow = map linking next; noted = zeros r; kept = replicate (r * r) noBuffer }
+    unfolding tablesOf
     blank =
         let s : map (descIn r (zeros (r + r * r)) (zeros (r + r * r)) halves (replicate (r * r) false)) (rising r 0) ≡ map linking next =
         ap (λ (f : ℕ → Desc). map f (rising r 0)) (fun-ext desc-are)

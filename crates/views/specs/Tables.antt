@@ -59,7 +59,7 @@ module _ (r : ℕ) (words lens halves : List ℕ) (sides : List Bool) where
       record { addr = at (ofLists r words) j; len = at (ofLists r lens) j; output = getD (sidesIn r sides) j false }
 
   -- THE TABLES
-  abbrev pub tablesOf : Tables
+  unfoldable pub tablesOf : Tables
   tablesOf = record {
     shadow = map descIn (rising r 0);
     noted = notedIn r halves;
@@ -69,6 +69,7 @@ module _ (r : ℕ) (words lens halves : List ℕ) (sides : List Bool) where
   -- ---- reading them: entry i of the tables is what the views say at i, wherever i lies
 
   pub desc-is : (i : ℕ) → getD (tablesOf .shadow) i noDesc ≡ descIn i
+  unfolding tablesOf
   desc-is i =
       by-test (ltb i r)
       (λ e. getD-rising descIn noDesc r 0 i (ltb-true i r e) ∙ ap descIn (omega arith))
@@ -80,6 +81,7 @@ module _ (r : ℕ) (words lens halves : List ℕ) (sides : List Bool) where
       }))
 
   pub entry-is : (j : ℕ) → getD (tablesOf .kept) j noBuffer ≡ entryIn j
+  unfolding tablesOf
   entry-is j =
       by-test (ltb j (r * r))
       (λ e. getD-rising entryIn noBuffer (r * r) 0 j (ltb-true j (r * r) e) ∙ ap entryIn (omega arith))
