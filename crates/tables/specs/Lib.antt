@@ -1,2 +1,5 @@
--- The tables with one entry changed, and what loads of and stores to words are to the tables.
+-- The private tables in lent words.
+--   Stores  the tables with one entry changed; loads of words and stores to them, as the tables have them
+--   Ready   what the code of the calls asks of words and bytes
 pub mod Stores
+pub mod Ready

@@ -1,9 +1,10 @@
 -- The rules' tables with one entry changed; and what a load of words and a store to them are to the tables that the words say.
-use mathlib.Core.Path.{_≡_, sym, ap, _∙_, subst}
-use mathlib.Core.Bool.{Bool, false}
+use mathlib.Core.Path.{_≡_, refl, sym, ap, _∙_, subst}
+use mathlib.Core.Bool.{Bool, false, cond}
 use mathlib.Core.List.{List, map}
-use Prim.Native.Nat.{ℕ, _+_, _*_, _≤_, _<_}
+use Prim.Native.Nat.{ℕ, _+_, _*_, _/_, _%_, _≤_, _<_}
 use native.Mathlib.Omega.{arith}
+use borrow.Author.Tests.{eq-eqb, ne-eqb}
 use lib.ListN.{length, getD, set, take, drop, length-set, length-map}
 use lib.Seq.{getD-take, getD-drop, getD-set-same, getD-set-other, ext-getD, take-set-le, take-set-lt, drop-set-lt, drop-set-add}
 use Rattle.lists.specs.Tests.{by-eq}
@@ -11,7 +12,7 @@ use Rattle.lists.specs.Pick.{rising}
 use Rattle.lists.specs.PickLaws.{getD-rising, length-rising}
 use Rattle.virtio.specs.declared.Desc.{Desc}
 use Rattle.virtio.specs.declared.Buffer.{Buffer}
-use Rattle.virtio.specs.Desc.{noDesc, noBuffer}
+use Rattle.virtio.specs.Desc.{noDesc, noBuffer, hasIndirect}
 use Rattle.rules.specs.Record.{Tables}
 use Rattle.views.specs.Views.{Closed}
 use Rattle.views.specs.Tables.{cut, nextsIn, descIn, entryIn, tablesOf, desc-is, entry-is}
@@ -185,3 +186,12 @@ module _ (r : ℕ) (words lens halves : List ℕ) (sides : List Bool) where
           noted = tablesOf r words lens halves sides .noted;
           kept = table j;
         }
+
+-- how many buffers a descriptor x tells of, given what was loaded of it; k is the noted length
+pub size-listed : (d x : Desc) (k : ℕ) → d ≡ x → d .flags / 4 % 2 ≡ 1 → d .len / 16 ≡ cond (hasIndirect x) (x .len / 16) k
+size-listed d x k e f =
+    subst (λ (y : Desc). d .len / 16 ≡ cond (hasIndirect y) (y .len / 16) k) e (rw (eq-eqb (d .flags / 4 % 2) 1 f) refl)
+
+pub size-noted : (d x : Desc) (k j : ℕ) → d ≡ x → (d .flags / 4 % 2 ≡ 1 → ⊥) → j ≡ k → j ≡ cond (hasIndirect x) (x .len / 16) k
+size-noted d x k j e f z =
+    subst (λ (y : Desc). j ≡ cond (hasIndirect y) (y .len / 16) k) e (rw (ne-eqb (d .flags / 4 % 2) 1 f) z)

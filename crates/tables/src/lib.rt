@@ -1,12 +1,12 @@
 // The private tables as the rules have them, in lent words (views): loads and stores of a descriptor, of a noted length and of a list entry, and links
 // followed. Code above this crate speaks of the rules' tables and never of words, so that another storage changes this crate alone.
 ghost use mathlib.Core.Path.{_≡_};
-ghost use mathlib.Core.Bool.{Bool};
+ghost use mathlib.Core.Bool.{Bool, cond};
 ghost use mathlib.Core.List.{List};
-ghost use Prim.Native.Nat.{ℕ, _+_, _*_, _≤_, _<_};
+ghost use Prim.Native.Nat.{ℕ, _+_, _*_, _/_, _≤_, _<_};
 ghost use lib.ListN.{length, getD};
 ghost use Rattle.lists.specs.Walk.{hop as hopIs};
-ghost use Rattle.virtio.specs.Desc.{noDesc, noBuffer};
+ghost use Rattle.virtio.specs.Desc.{noDesc, noBuffer, hasIndirect};
 ghost use Rattle.views.specs.Views.{Closed};
 ghost use Rattle.views.specs.Tables.{nextsIn, tablesOf};
 ghost use Rattle.tables.specs.Stores.{withDesc, withNoted, withEntry};
@@ -88,6 +88,21 @@ pub fn put_noted(room: usize, halves: &mut [u16], h: u16, k: u16)
     ensures { λ r. ⌜ ((words lens : List ℕ) (sides : List Bool) → tablesOf room words lens (now (halves .exit)) sides ≡ withNoted (tablesOf room words lens (now (halves .entry)) sides) h k) ⌝ }
 {
     halves[2 * room + (h as usize)] = k;
+}
+
+// How many buffers the chain at head h has: by its descriptor where that refers to a list, else by the noted length.
+pub fn size_at(room: usize, words: &[u64], lens: &[u32], halves: &[u16], h: u16) -> u32
+    requires { ⌜ h < room ⌝ }
+    requires { ⌜ (room ≤ length (now words)) × (room ≤ length (now lens)) ⌝ }
+    requires { ⌜ 3 * room ≤ length (now halves) ⌝ }
+    ensures { λ r. ⌜ ((sides : List Bool) → r ≡ cond (hasIndirect (getD (tablesOf room (now (words .entry)) (now (lens .entry)) (now (halves .entry)) sides .shadow) h noDesc)) (getD (tablesOf room (now (words .entry)) (now (lens .entry)) (now (halves .entry)) sides .shadow) h noDesc .len / 16) (getD (tablesOf room (now (words .entry)) (now (lens .entry)) (now (halves .entry)) sides .noted) h 0)) ⌝ }
+{
+    let d = desc_at(room, words, lens, halves, h);
+    if d.flags / 4 % 2 == 1 {
+        d.len / 16
+    } else {
+        noted_at(room, halves, h) as u32
+    }
 }
 
 // Entry j of the private lists.
