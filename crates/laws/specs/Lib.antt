@@ -12,6 +12,17 @@
 --   HeldKeeps     steps and openings, as to what memory can hold
 --   CallKeeps     runs, pop and peek, opened and whole, over any memory
 --   Opening       add, opened and whole
+-- What the whole call add does:
+--   Added         its closed form: answer, value, steps, record, memory; what it leaves of the free list and of the chains
+--   Stored, Followed   descriptors stored apart are read back; a table that holds a list means it to a device
+--   Reads, DirectReads, ListReads, Published   what an add publishes is read by VIRTIO's rules as the list given, direct and indirect
+-- Runs and whole calls:
+--   Runs          how one run follows another, and how many steps they count
+--   StepsLeft     how many steps an open call still takes, so that n + 4 close it and a run takes the lesser of its budget and those
+--   Regions       steps keep the layout and the lengths of the regions
+--   Whole         add, pop and peek: closed, and the opening and its steps, however shared out among runs
+--   Popped        pop and peek in closed form
+--   PopFrees      a pop, and each of its steps, frees its token's chain or nothing
 -- Who writes what:
 --   Writers       a step stores to the driver's fields and loads the device's, and no others
 pub mod WellFormedIs
@@ -28,4 +39,17 @@ pub mod StepKeeps
 pub mod HeldKeeps
 pub mod CallKeeps
 pub mod Opening
+pub mod Added
+pub mod Stored
+pub mod Followed
+pub mod Reads
+pub mod DirectReads
+pub mod ListReads
+pub mod Published
+pub mod Runs
+pub mod StepsLeft
+pub mod Regions
+pub mod Whole
+pub mod Popped
+pub mod PopFrees
 pub mod Writers

@@ -32,7 +32,7 @@ or-false true b e = (e, absurd (let z : _≡_ {A = ℕ} 0 1 = ap (λ t. cond t 0
 or-false false b e = (refl, e)
 
 -- a call that is not open is none
-none-open : (c : Open) → isOpen c ≡ false → c ≡ Idle
+pub none-open : (c : Open) → isOpen c ≡ false → c ≡ Idle
 none-open Idle e = refl
 none-open (Add h i) e = absurd (let z : _≡_ {A = ℕ} 0 1 = ap (λ t. cond t 0 1) e in omega arith)
 none-open (PopIdx t b) e = absurd (let z : _≡_ {A = ℕ} 0 1 = ap (λ t. cond t 0 1) e in omega arith)

@@ -69,7 +69,7 @@ call-keeps q c w e n =
 
 -- ---- the steps
 
-one-most : (b : Bool) → one-if b ≤ 1
+pub one-most : (b : Bool) → one-if b ≤ 1
 one-most true = omega arith
 one-most false = omega arith
 
@@ -78,7 +78,7 @@ unfolding tally
 tally-most p zero i = omega arith
 tally-most p (suc m) i = omega (arith, one-most (p i), tally-most p m (suc i))
 
-power-most : (n k : ℕ) → k ≤ 6 → n ≡ 2 ^ k → n ≤ 64
+pub power-most : (n k : ℕ) → k ≤ 6 → n ≡ 2 ^ k → n ≤ 64
 power-most n k h e = rw e (pow-le-pow-right (omega arith) h)
 
 -- two sums, kept apart from the indices' own arithmetic
