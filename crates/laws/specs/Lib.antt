@@ -25,6 +25,12 @@
 --   PopFrees      a pop, and each of its steps, frees its token's chain or nothing
 -- Who writes what:
 --   Writers       a step stores to the driver's fields and loads the device's, and no others
+-- What calls depend on, and what they change:
+--   Depends, CallDepends   what answers and records depend on, of shared memory: of a step and a run; of an opening and a whole call
+--   Changes       which bytes an access and a step may change
+--   CallChanges   which bytes runs and whole calls may change
+--   Still         what leaves the memory as it is: openings, peek, and every refusal; and all lengths
+--   UsedStays     no call changes region two or the used ring
 pub mod WellFormedIs
 pub mod Placed
 pub mod Held
@@ -53,3 +59,9 @@ pub mod Whole
 pub mod Popped
 pub mod PopFrees
 pub mod Writers
+pub mod Depends
+pub mod CallDepends
+pub mod Changes
+pub mod CallChanges
+pub mod Still
+pub mod UsedStays
