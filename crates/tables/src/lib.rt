@@ -1,17 +1,28 @@
 // The private tables as the rules have them, in lent words (views): loads and stores of a descriptor, of a noted length and of a list entry, and links
 // followed. Code above this crate speaks of the rules' tables and never of words, so that another storage changes this crate alone.
 ghost use mathlib.Core.Path.{_≡_};
-ghost use mathlib.Core.Bool.{Bool, cond};
+ghost use mathlib.Core.Bool.{Bool, false, cond};
 ghost use mathlib.Core.List.{List};
 ghost use Prim.Native.Nat.{ℕ, _+_, _*_, _/_, _≤_, _<_};
 ghost use lib.ListN.{length, getD};
 ghost use Rattle.lists.specs.Walk.{hop as hopIs};
-ghost use Rattle.virtio.specs.Desc.{noDesc, noBuffer, hasIndirect};
+ghost use Rattle.virtio.specs.Desc.{noDesc, noBuffer, hasIndirect, flagsOf};
 ghost use Rattle.views.specs.Views.{Closed};
 ghost use Rattle.views.specs.Tables.{nextsIn, tablesOf};
 ghost use Rattle.tables.specs.Stores.{withDesc, withNoted, withEntry};
 use virtio::Buffer;
 use virtio::Desc;
+
+// The flags of a descriptor for a buffer: whether another follows, and whether the device writes it.
+pub fn flags_of(more: bool, output: bool) -> u16
+    ensures { λ r. ⌜ r ≡ flagsOf more output false ⌝ }
+{
+    if more {
+        if output { 3 } else { 1 }
+    } else {
+        if output { 2 } else { 0 }
+    }
+}
 
 // Descriptor i of the shadow table.
 pub fn desc_at(room: usize, words: &[u64], lens: &[u32], halves: &[u16], i: u16) -> Desc
