@@ -20,9 +20,9 @@ use indices::after;
 use layout::avail_at;
 use opens::matches;
 use opens::open_add as opens_add;
+use react::Reacted;
 use react::react;
 use react::with_call;
-use react::Reacted;
 use refusals::add_refusal;
 use refusals::call_refusal;
 use refusals::fits;
@@ -76,7 +76,10 @@ pub fn open_add(
     if number != 0 {
         return refused(c, number);
     }
-    refused(opens_add(c, room, words, lens, halves, sides, addrs, sizes, outs), 0)
+    refused(
+        opens_add(c, room, words, lens, halves, sides, addrs, sizes, outs),
+        0,
+    )
 }
 
 // Opens a pop: it keeps the token and whether the list is the one that was added.
@@ -103,7 +106,18 @@ pub fn open_pop(
     if number != 0 {
         return refused(c, number);
     }
-    let matched = matches(c, room, words, lens, halves, sides, token, addrs, sizes, outs);
+    let matched = matches(
+        c,
+        room,
+        words,
+        lens,
+        halves,
+        sides,
+        token,
+        addrs,
+        sizes,
+        outs,
+    );
     refused(with_call(c, Open::PopIdx { token, matched }), 0)
 }
 
@@ -244,7 +258,18 @@ fn finish(
     if o.answer != 0 {
         return o;
     }
-    moves(o.core, room, words, lens, halves, sides, one, two, pool, (n as u32) + 4)
+    moves(
+        o.core,
+        room,
+        words,
+        lens,
+        halves,
+        sides,
+        one,
+        two,
+        pool,
+        (n as u32) + 4,
+    )
 }
 
 // Adds a list of buffers; the value is the token.
@@ -265,7 +290,20 @@ pub fn add(
     requires { ⌜ Room c room (now words) (now lens) (now halves) (now sides) ⌝ }
     ensures { λ r. ⌜ doneOf r (tablesOf room (now (words .exit)) (now (lens .exit)) (now (halves .exit)) (now (sides .exit))) (memory (now (one .exit)) (now (two .entry)) (now (pool .exit))) ≡ addIs (queueOf c (tablesOf room (now (words .entry)) (now (lens .entry)) (now (halves .entry)) (now (sides .entry)))) (memory (now (one .entry)) (now (two .entry)) (now (pool .entry))) (given (now (addrs .entry)) (now (sizes .entry)) (now (outs .entry))) ⌝ }
 {
-    let o = open_add(c, room, words, lens, halves, sides, addrs, sizes, outs, one, two, pool);
+    let o = open_add(
+        c,
+        room,
+        words,
+        lens,
+        halves,
+        sides,
+        addrs,
+        sizes,
+        outs,
+        one,
+        two,
+        pool,
+    );
     finish(c.n, o, room, words, lens, halves, sides, one, two, pool)
 }
 
@@ -288,7 +326,21 @@ pub fn pop_used(
     requires { ⌜ Room c room (now words) (now lens) (now halves) (now sides) ⌝ }
     ensures { λ r. ⌜ doneOf r (tablesOf room (now (words .exit)) (now (lens .exit)) (now (halves .exit)) (now (sides .exit))) (memory (now (one .exit)) (now (two .entry)) (now (pool .exit))) ≡ popUsed (queueOf c (tablesOf room (now (words .entry)) (now (lens .entry)) (now (halves .entry)) (now (sides .entry)))) (memory (now (one .entry)) (now (two .entry)) (now (pool .entry))) token (given (now (addrs .entry)) (now (sizes .entry)) (now (outs .entry))) ⌝ }
 {
-    let o = open_pop(c, room, words, lens, halves, sides, token, addrs, sizes, outs, one, two, pool);
+    let o = open_pop(
+        c,
+        room,
+        words,
+        lens,
+        halves,
+        sides,
+        token,
+        addrs,
+        sizes,
+        outs,
+        one,
+        two,
+        pool,
+    );
     finish(c.n, o, room, words, lens, halves, sides, one, two, pool)
 }
 

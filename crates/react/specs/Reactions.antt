@@ -1,9 +1,11 @@
 -- What the code's reactions are to the rules': the plain fields after each, and the tables part by part after a chain was freed.
+use mathlib.Core.List.{List}
 use Prim.Native.Nat.{ℕ, _-_}
 use lib.ListN.{getD, replicate}
 use lib.Seq.{sets}
 use Rattle.lists.specs.Index.{after}
 use Rattle.lists.specs.Walk.{hop, walk}
+use Rattle.virtio.specs.declared.Desc.{Desc}
 use Rattle.virtio.specs.Desc.{noDesc, noBuffer}
 use Rattle.rules.specs.declared.Open.{Open}
 use Rattle.rules.specs.Record.{Tables}
@@ -52,17 +54,16 @@ freedCore c k t = record {
 abbrev pub reactedOf : Reacted → Tables → Reaction
 reactedOf r t = record { answer = r .answer; value = r .value; queue = queueOf (r .core) t }
 
--- what descriptor i links to
-abbrev pub nextIn : Tables → ℕ → ℕ
-nextIn t i = getD (t .shadow) i noDesc .next
+-- what descriptor i links to; the table with the k descriptors from h on emptied, the last of them linked to x
+abbrev pub links : List Desc → ℕ → ℕ
+links s i = getD s i noDesc .next
 
--- the tables with the k descriptors from h on emptied, the last of them linked to x; with count list entries from a on cleared
+abbrev pub unlinked : List Desc → ℕ → ℕ → ℕ → List Desc
+unlinked s h k x = relink (emptyAll s (walk (links s) k h)) (hop (links s) (k - 1) h) x
+
+-- the tables so; and with count list entries from a on cleared
 abbrev pub unchained : Tables → ℕ → ℕ → ℕ → Tables
-unchained t h k x = record {
-  shadow = relink (emptyAll (t .shadow) (walk (nextIn t) k h)) (hop (nextIn t) (k - 1) h) x;
-  noted = t .noted;
-  kept = t .kept;
-}
+unchained t h k x = record { shadow = unlinked (t .shadow) h k x; noted = t .noted; kept = t .kept }
 
 abbrev pub cleared : Tables → ℕ → ℕ → Tables
 cleared t a count =

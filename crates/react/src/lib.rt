@@ -3,7 +3,7 @@
 ghost use mathlib.Core.Path.{_≡_};
 ghost use mathlib.Core.Bool.{Bool, cond};
 ghost use mathlib.Core.List.{List};
-ghost use Prim.Native.Nat.{ℕ, _+_, _*_, _<_, _≤_};
+ghost use Prim.Native.Nat.{ℕ, _+_, _*_, _/_, _<_, _≤_};
 ghost use lib.ListN.{length};
 ghost use Rattle.virtio.specs.Desc.{hasIndirect};
 ghost use Rattle.rules.specs.declared.Open.the-variants.{Idle, Add, PopIdx, PopLen, PopStore, PeekIdx};
@@ -96,7 +96,7 @@ fn publish(c: Core) -> Core
 // After a store of an add of `size` buffers.
 fn add_stored(c: Core, size: u32, head: u16, step: u16) -> Reacted
     requires { ⌜ (step < size + 3) × (size ≤ 64) ⌝ }
-    ensures { λ r. ⌜ ((t : Tables) → sizeOf (queueOf c t) head ≡ size → reactedOf r t ≡ reactIs (queueOf c t) (Add head step) 0) ⌝ }
+    ensures { λ r. ⌜ ((t : Tables) → size ≡ sizeOf (queueOf c t) head → reactedOf r t ≡ reactIs (queueOf c t) (Add head step) 0) ⌝ }
 {
     if (step as u32) + 1 < size + 3 {
         goes_on(
@@ -264,16 +264,14 @@ fn free_chain(
     let k = noted_at(room, halves, token);
     free_descs(c.n, room, words, lens, halves, token, k, c.free_head);
     put_noted(room, halves, token, 0);
-    if d.flags / 4 % 2 == 1 {
-        clear_entries(
-            room,
-            words,
-            lens,
-            sides,
-            (c.n as usize) * (token as usize),
-            d.len / 16,
-        );
-    }
+    clear_entries(
+        room,
+        words,
+        lens,
+        sides,
+        (c.n as usize) * (token as usize),
+        list_count(d),
+    );
     freed_core(c, k, token)
 }
 
@@ -293,6 +291,17 @@ fn freed_core(c: Core, k: u16, token: u16) -> Core
         avail_idx: c.avail_idx,
         last_used_idx: after(c.last_used_idx),
         call,
+    }
+}
+
+// How many entries the list of a chain with this head has: none of a direct one.
+fn list_count(head: Desc) -> u32
+    ensures { λ r. ⌜ r ≡ cond (hasIndirect head) (head .len / 16) 0 ⌝ }
+{
+    if head.flags / 4 % 2 == 1 {
+        head.len / 16
+    } else {
+        0
     }
 }
 

@@ -1,5 +1,5 @@
-// The queue's record as a struct by value, the check of it, and the calls new and available_desc (document 01, "The record" and part 3). The tables lie in
-// arrays at the limit, one for each width, as views lays them out.
+// The queue's record as a struct by value, the check of it, and the calls new and available_desc (document 01, "The record" and part 3); the other calls
+// are in calls.rt. The tables lie in arrays at the limit, one for each width, as views lays them out.
 ghost use mathlib.Core.Path.{_≡_};
 ghost use mathlib.Core.Bool.{cond};
 ghost use mathlib.Core.List.{[]};
@@ -8,12 +8,14 @@ ghost use lib.Dec.{eqb};
 ghost use lib.ListN.{length};
 ghost use Rattle.virtio.specs.Memory.{Memory};
 ghost use Rattle.virtio.specs.Layout.{needOne, needTwo};
-ghost use Rattle.rules.specs.Record.{isOpen};
 ghost use Rattle.rules.specs.WellFormed.{broken as brokenIs};
 ghost use Rattle.rules.specs.Calls.{availableDesc};
 ghost use Rattle.rules.specs.New.{zeroQueue, freshQueue, clearUsed, clearFront, usedBase, newRefusal, regionsOk, lends as lendsIs, new as newIs};
 ghost use Rattle.record.specs.Abs.{abs};
 ghost use Rattle.record.specs.Asked.{askOf, memory, madeOf, toldOf};
+
+mod calls;
+
 use fresh::clear;
 use fresh::link_nexts;
 use fresh::link_table;
@@ -27,6 +29,7 @@ use layout::need_two;
 use layout::table_size;
 use layout::used_at;
 use layout::used_size;
+use refusals::is_open;
 use rules::Modes;
 use rules::Open;
 use views::Core;
@@ -61,17 +64,18 @@ pub struct Made {
     pub queue: Queue,
 }
 
+// What a call answers: the number, the value, how many loads and stores were made; and the record after it.
+pub struct Answer {
+    pub answer: u8,
+    pub value: u32,
+    pub steps: u32,
+    pub queue: Queue,
+}
+
 // A number and a value.
 pub struct Told {
     pub answer: u8,
     pub value: u16,
-}
-
-// Whether a call is open.
-fn is_open(call: Open) -> bool
-    ensures { λ r. ⌜ r ≡ isOpen call ⌝ }
-{
-    if let Open::Idle = call { false } else { true }
 }
 
 // How many descriptors an add may have in a record with none open.

@@ -1,24 +1,22 @@
 -- What a call has that nothing refuses: a record that is held and well formed, in words with room for it, and regions that do.
-use mathlib.Core.Path.{_≡_, ap, _∙_}
+use mathlib.Core.Path.{_≡_, _∙_}
 use mathlib.Core.Bool.{Bool, true, false, not, _&&_, _||_}
-use mathlib.Core.List.{List, [], _∷_, map}
-use Prim.Native.Nat.{ℕ, _+_, _*_, _≤_, _<_}
+use mathlib.Core.List.{List}
+use Prim.Native.Nat.{ℕ, _*_, _≤_, _<_}
 use native.Mathlib.Nat.{mul-le-mul}
 use native.Mathlib.Omega.{arith}
-use borrow.Author.Tests.{leb-true, not-false, eq-eqb, eqb-true}
-use lib.Dec.{leb, eqb}
+use borrow.Author.Tests.{leb-true, not-false}
+use lib.Dec.{leb}
 use lib.ListN.{length, length-map, length-take, length-drop, drop}
 use Rattle.lists.specs.Tests.{and-left, and-right, implied}
-use Rattle.lists.specs.Pick.{Test, first, rising}
+use Rattle.lists.specs.Pick.{first, rising}
 use Rattle.lists.specs.PickLaws.{length-rising, first-none, NoneOf}
 use Rattle.virtio.specs.Layout.{needOne, needTwo, needPool}
 use Rattle.rules.specs.Record.{Queue, isOpen}
-use Rattle.rules.specs.WellFormed.{sizeOk, size-clause, broken, wellFormed}
+use Rattle.rules.specs.WellFormed.{wellFormed}
 use Rattle.rules.specs.Meaning.{WellFormed}
 use Rattle.laws.specs.WellFormedIs.{means-size, well-formed-means}
-use Rattle.laws.specs.Held.{Held}
 use Rattle.laws.specs.StepKeeps.{power-most}
-use Rattle.laws.specs.CallKeeps.{Good}
 use Rattle.views.specs.declared.Core.{Core}
 use Rattle.views.specs.Tables.{descIn, entryIn, tablesOf, queueOf}
 use Rattle.wellformed.specs.Room.{Room}

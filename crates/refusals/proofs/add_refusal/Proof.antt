@@ -1,8 +1,7 @@
 -- `refusals::add_refusal` meets its contract: what refuses a call, then the list and the room for it.
 use mathlib.Core.Path.{_≡_, sym, ap, _∙_}
-use mathlib.Core.Bool.{Bool, true, false}
+use mathlib.Core.Bool.{true, false}
 use mathlib.Core.List.{List}
-use Prim.Native.Nat.{ℕ}
 use borrow.Author.Tests.{not-false, not-true}
 use lib.ListN.{length}
 use Rattle.lists.specs.Pick.{first}
@@ -18,12 +17,6 @@ use Rattle.refusals.specs.Refusals.{callTests, add-stops, add-none, add-
 use borrow.Author.Needs.{needs}
 use Rattle.refusals.proofs.add_refusal.Statement.{statement}
 use Rattle.refusals.proofs.add_refusal.Tie as tie
-use Rattle.refusals.proofs.add_refusal.Reads as reads
-use Rattle.refusals.proofs.add_refusal.Lts as lts
-use Rattle.opens.proofs.full.Reads as full-reads
-use Rattle.opens.proofs.in_order.Reads as in-order-reads
-use Rattle.opens.proofs.none_empty.Reads as none-empty-reads
-use Rattle.refusals.proofs.call_refusal.Reads as call-refusal-reads
 
 -- the record and the list; and what is so past each test
 abbrev record-of : tie.Start → Queue

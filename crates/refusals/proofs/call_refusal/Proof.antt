@@ -7,10 +7,6 @@ use Rattle.refusals.specs.Refusals.{stepTests, call-stops, call-busy, ca
 use borrow.Author.Needs.{needs}
 use Rattle.refusals.proofs.call_refusal.Statement.{statement}
 use Rattle.refusals.proofs.call_refusal.Tie as tie
-use Rattle.refusals.proofs.call_refusal.Reads as reads
-use Rattle.refusals.proofs.call_refusal.Lts as lts
-use Rattle.refusals.proofs.is_open.Reads as is-open-reads
-use Rattle.refusals.proofs.step_refusal.Reads as step-refusal-reads
 
 -- the record, and that no step of it is refused past the first test
 abbrev record-of : tie.Start → Queue

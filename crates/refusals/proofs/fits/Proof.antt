@@ -1,14 +1,8 @@
 -- `refusals::fits` meets its contract: region one, region two, and the pool in indirect mode.
-use mathlib.Core.Path.{_≡_}
 use Rattle.refusals.specs.Refusals.{fits-not, fits-not-two, fits-pool, fits-all}
 use borrow.Author.Needs.{needs}
 use Rattle.refusals.proofs.fits.Statement.{statement}
 use Rattle.refusals.proofs.fits.Tie as tie
-use Rattle.refusals.proofs.fits.Reads as reads
-use Rattle.refusals.proofs.fits.Lts as lts
-use Rattle.layout.proofs.need_one.Reads as need-one-reads
-use Rattle.layout.proofs.need_pool.Reads as need-pool-reads
-use Rattle.layout.proofs.need_two.Reads as need-two-reads
 
 need-one-requires : tie.Need-need-one-requires
 need-one-requires c κs = search needs

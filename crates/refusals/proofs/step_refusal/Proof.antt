@@ -7,9 +7,6 @@ use Rattle.refusals.specs.Refusals.{step-bad, step-told, step-short}
 use borrow.Author.Needs.{needs}
 use Rattle.refusals.proofs.step_refusal.Statement.{statement}
 use Rattle.refusals.proofs.step_refusal.Tie as tie
-use Rattle.refusals.proofs.step_refusal.Reads as reads
-use Rattle.refusals.proofs.step_refusal.Lts as lts
-use Rattle.wellformed.proofs.broken.Reads as broken-reads
 
 -- the record, and that it is not broken past the first test
 abbrev record-of : tie.Start → Queue

@@ -4,8 +4,6 @@ use Rattle.tables.specs.Stores.{desc-load}
 use borrow.Author.Needs.{needs}
 use Rattle.tables.proofs.desc_at.Statement.{statement}
 use Rattle.tables.proofs.desc_at.Tie as tie
-use Rattle.tables.proofs.desc_at.Reads as reads
-use Rattle.tables.proofs.desc_at.Lts as lts
 
 mul-t7 : tie.Need-mul-t7
 mul-t7 c = search needs

@@ -4,8 +4,6 @@ use Rattle.tables.specs.Stores.{entry-load}
 use borrow.Author.Needs.{needs}
 use Rattle.tables.proofs.entry_at.Statement.{statement}
 use Rattle.tables.proofs.entry_at.Tie as tie
-use Rattle.tables.proofs.entry_at.Reads as reads
-use Rattle.tables.proofs.entry_at.Lts as lts
 
 add-t6 : tie.Need-add-t6
 add-t6 c = search needs

@@ -1,8 +1,6 @@
 -- `tables::flags_of` meets its contract, case by case.
 use Rattle.tables.proofs.flags_of.Statement.{statement}
 use Rattle.tables.proofs.flags_of.Tie as tie
-use Rattle.tables.proofs.flags_of.Reads as reads
-use Rattle.tables.proofs.flags_of.Lts as lts
 
 returns : tie.Need-returns
 returns c = rw (c .before .if1 .taken, c .if2 .taken)

@@ -2,19 +2,16 @@
 use mathlib.Core.Path.{_≡_, refl, sym, ap, _∙_, subst}
 use mathlib.Core.Bool.{Bool}
 use mathlib.Core.List.{List, []}
-use Prim.Native.Nat.{ℕ, zero, suc, _+_, _-_, _≤_, _<_}
+use Prim.Native.Nat.{ℕ, _-_, _<_}
 use native.Mathlib.Omega.{arith}
 use borrow.Author.Needs.{needs}
 use lib.ListN.{getD}
 use Rattle.lists.specs.Walk.{hop, hop-turn, hop-none}
 use Rattle.virtio.specs.Desc.{noDesc}
-use Rattle.views.specs.Tables.{nextsIn, tablesOf}
+use Rattle.views.specs.Tables.{tablesOf}
 use Rattle.tables.specs.Stores.{next-below}
 use Rattle.tables.proofs.hop.Statement.{statement}
 use Rattle.tables.proofs.hop.Tie as tie
-use Rattle.tables.proofs.hop.Reads as reads
-use Rattle.tables.proofs.hop.Lts as lts
-use Rattle.tables.proofs.next_at.Reads as next-at-reads
 
 -- what descriptor j links to
 abbrev linked : ℕ → List ℕ → List ℕ → List ℕ → List Bool → ℕ → ℕ

@@ -6,8 +6,6 @@ use Rattle.tables.specs.Stores.{desc-store}
 use borrow.Author.Needs.{needs}
 use Rattle.tables.proofs.put_desc.Statement.{statement}
 use Rattle.tables.proofs.put_desc.Tie as tie
-use Rattle.tables.proofs.put_desc.Reads as reads
-use Rattle.tables.proofs.put_desc.Lts as lts
 
 mul-words : tie.Need-mul-words
 mul-words c = search needs

@@ -4,8 +4,6 @@ use Rattle.tables.specs.Stores.{entry-store}
 use borrow.Author.Needs.{needs}
 use Rattle.tables.proofs.put_entry.Statement.{statement}
 use Rattle.tables.proofs.put_entry.Tie as tie
-use Rattle.tables.proofs.put_entry.Reads as reads
-use Rattle.tables.proofs.put_entry.Lts as lts
 
 add-words : tie.Need-add-words
 add-words c = search needs

@@ -4,8 +4,6 @@ use Rattle.tables.specs.Stores.{noted-store}
 use borrow.Author.Needs.{needs}
 use Rattle.tables.proofs.put_noted.Statement.{statement}
 use Rattle.tables.proofs.put_noted.Tie as tie
-use Rattle.tables.proofs.put_noted.Reads as reads
-use Rattle.tables.proofs.put_noted.Lts as lts
 
 mul-halves : tie.Need-mul-halves
 mul-halves c = search needs

@@ -6,10 +6,6 @@ use Rattle.tables.specs.Stores.{size-listed, size-noted}
 use borrow.Author.Needs.{needs}
 use Rattle.tables.proofs.size_at.Statement.{statement}
 use Rattle.tables.proofs.size_at.Tie as tie
-use Rattle.tables.proofs.size_at.Reads as reads
-use Rattle.tables.proofs.size_at.Lts as lts
-use Rattle.tables.proofs.desc_at.Reads as desc-at-reads
-use Rattle.tables.proofs.noted_at.Reads as noted-at-reads
 
 desc-at-requires : tie.Need-desc-at-requires
 desc-at-requires c κs = search needs
