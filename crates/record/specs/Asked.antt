@@ -1,7 +1,5 @@
 -- What new is asked, and what new, available_desc and the other calls answer, as the rules' records.
 use mathlib.Core.Path.{_≡_, ap}
-use mathlib.Core.List.{List}
-use Prim.Native.Nat.{ℕ}
 use Rattle.virtio.specs.Memory.{Memory}
 use Rattle.rules.specs.Answer.{Outcome}
 use Rattle.rules.specs.New as rule
@@ -22,9 +20,6 @@ askOf a = record {
   base-two = a .«base_two»;
   base-pool = a .«base_pool»;
 }
-
-abbrev pub memory : List ℕ → List ℕ → List ℕ → Memory
-memory one two pool = record { one = one; two = two; pool = pool }
 
 abbrev pub madeOf : Made → Memory → rule.Made
 madeOf r m =

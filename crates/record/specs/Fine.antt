@@ -16,7 +16,7 @@ use Rattle.virtio.specs.Sizes.{front-inside, used-in-one, used-in-two}
 use Rattle.rules.specs.WellFormed.{sizeOk, baseOk}
 use Rattle.rules.specs.Answer.{InvalidParam, BadSize, AlreadyUsed, BadRegion}
 use Rattle.rules.specs.New.{Ask, lends, newRefusal, clearUsed, clearFront, usedBase, made, notMade, new}
-use Rattle.record.specs.Asked.{memory}
+use Rattle.access.specs.Accesses.{memory}
 
 -- ---- sizes
 

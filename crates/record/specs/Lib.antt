@@ -4,8 +4,10 @@
 --   Fine    new by its refusal, and what is so where it refuses nothing
 --   Lent    the arrays have room for what is lent
 --   Counted the outcomes of available_desc
+--   Kept    a struct that passes the check passes it after every call
 pub mod Abs
 pub mod Asked
 pub mod Fine
 pub mod Lent
 pub mod Counted
+pub mod Kept

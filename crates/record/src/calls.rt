@@ -3,8 +3,9 @@
 ghost use mathlib.Core.Path.{_≡_};
 ghost use Rattle.rules.specs.Calls.{openAdd, openPop, openPeek, run as runIs, step as stepIs, add as addIs, popUsed, peekUsed, canPop, shouldNotify, setDevNotify};
 ghost use Rattle.opens.specs.Given.{given};
+ghost use Rattle.access.specs.Accesses.{memory};
 ghost use Rattle.record.specs.Abs.{abs};
-ghost use Rattle.record.specs.Asked.{memory, answerOf};
+ghost use Rattle.record.specs.Asked.{answerOf};
 use crate::Answer;
 use crate::Queue;
 

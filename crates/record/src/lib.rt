@@ -11,8 +11,9 @@ ghost use Rattle.virtio.specs.Layout.{needOne, needTwo};
 ghost use Rattle.rules.specs.WellFormed.{broken as brokenIs};
 ghost use Rattle.rules.specs.Calls.{availableDesc};
 ghost use Rattle.rules.specs.New.{zeroQueue, freshQueue, clearUsed, clearFront, usedBase, newRefusal, regionsOk, lends as lendsIs, new as newIs};
+ghost use Rattle.access.specs.Accesses.{memory};
 ghost use Rattle.record.specs.Abs.{abs};
-ghost use Rattle.record.specs.Asked.{askOf, memory, madeOf, toldOf};
+ghost use Rattle.record.specs.Asked.{askOf, madeOf, toldOf};
 
 mod calls;
 

@@ -8,7 +8,8 @@ use borrow.Author.Needs.{needs}
 use denote.Ref.{now}
 use Rattle.virtio.specs.Memory.{Memory}
 use Rattle.rules.specs.New.{Ask, freshMemory}
-use Rattle.record.specs.Asked.{askOf, memory}
+use Rattle.access.specs.Accesses.{memory}
+use Rattle.record.specs.Asked.{askOf}
 use Rattle.record.specs.Fine.{Fine, fine, refusal, new-made, new-not, with-pool}
 use Rattle.record.proofs.Queue.new.Statement.{statement}
 use Rattle.record.proofs.Queue.new.Tie as tie
