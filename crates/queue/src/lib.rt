@@ -39,8 +39,8 @@ pub struct Done {
     pub steps: u32,
 }
 
-// A refusal: its number, and nothing altered.
-fn refused(core: Core, answer: u8) -> Done
+// An answer before any access: a refusal by its number, or 0 for a call that was opened.
+fn unmoved(core: Core, answer: u8) -> Done
     ensures { λ r. ⌜ r ≡ record { core = core; answer = answer; value = 0; steps = 0 } ⌝ }
 {
     Done {
@@ -74,9 +74,9 @@ pub fn open_add(
     let fit = fits(c, one.len(), two.len(), pool.len());
     let number = add_refusal(c, room, words, lens, halves, sides, fit, addrs, sizes, outs);
     if number != 0 {
-        return refused(c, number);
+        return unmoved(c, number);
     }
-    refused(
+    unmoved(
         opens_add(c, room, words, lens, halves, sides, addrs, sizes, outs),
         0,
     )
@@ -104,7 +104,7 @@ pub fn open_pop(
     let fit = fits(c, one.len(), two.len(), pool.len());
     let number = call_refusal(c, room, words, lens, halves, sides, fit);
     if number != 0 {
-        return refused(c, number);
+        return unmoved(c, number);
     }
     let matched = matches(
         c,
@@ -118,7 +118,7 @@ pub fn open_pop(
         sizes,
         outs,
     );
-    refused(with_call(c, Open::PopIdx { token, matched }), 0)
+    unmoved(with_call(c, Open::PopIdx { token, matched }), 0)
 }
 
 // Opens a peek.
@@ -139,9 +139,9 @@ pub fn open_peek(
     let fit = fits(c, one.len(), two.len(), pool.len());
     let number = call_refusal(c, room, words, lens, halves, sides, fit);
     if number != 0 {
-        return refused(c, number);
+        return unmoved(c, number);
     }
-    refused(with_call(c, Open::PeekIdx), 0)
+    unmoved(with_call(c, Open::PeekIdx), 0)
 }
 
 // ---- steps and runs
@@ -184,7 +184,7 @@ fn moves(
     requires { ⌜ Fitting c (now one) (now two) (now pool) ⌝ }
     ensures { λ r. ⌜ doneOf r (tablesOf room (now (words .exit)) (now (lens .exit)) (now (halves .exit)) (now (sides .exit))) (memory (now (one .exit)) (now (two .entry)) (now (pool .exit))) ≡ movesIs budget (openedIs (queueOf c (tablesOf room (now (words .entry)) (now (lens .entry)) (now (halves .entry)) (now (sides .entry)))) (memory (now (one .entry)) (now (two .entry)) (now (pool .entry)))) ⌝ }
 {
-    let mut r = refused(c, 0);
+    let mut r = unmoved(c, 0);
     let mut left = budget;
     while 0 < left {
         let core = r.core;
@@ -232,7 +232,7 @@ pub fn run(
     let fit = fits(c, one.len(), two.len(), pool.len());
     let number = step_refusal(c, room, words, lens, halves, sides, fit);
     if number != 0 {
-        return refused(c, number);
+        return unmoved(c, number);
     }
     moves(c, room, words, lens, halves, sides, one, two, pool, budget)
 }
@@ -402,7 +402,7 @@ pub fn can_pop<'a>(
     let fit = fits(c, one.len(), two.len(), pool.len());
     let number = call_refusal(c, room, words, lens, halves, sides, fit);
     if number != 0 {
-        return refused(c, number);
+        return unmoved(c, number);
     }
     let idx = load_used16(c, one, two, 2);
     answered(c, 1, one_if(idx != c.last_used_idx))
@@ -426,7 +426,7 @@ pub fn should_notify<'a>(
     let fit = fits(c, one.len(), two.len(), pool.len());
     let number = call_refusal(c, room, words, lens, halves, sides, fit);
     if number != 0 {
-        return refused(c, number);
+        return unmoved(c, number);
     }
     let modes = c.modes;
     if modes.event_idx {
@@ -457,7 +457,7 @@ pub fn set_dev_notify(
     let fit = fits(c, one.len(), two.len(), pool.len());
     let number = call_refusal(c, room, words, lens, halves, sides, fit);
     if number != 0 {
-        return refused(c, number);
+        return unmoved(c, number);
     }
     let modes = c.modes;
     if modes.event_idx {

@@ -5,9 +5,11 @@
 --   Lent    the arrays have room for what is lent
 --   Counted the outcomes of available_desc
 --   Kept    a struct that passes the check passes it after every call
+--   Said    what an add publishes and a pop frees, of the methods' answers
 pub mod Abs
 pub mod Asked
 pub mod Fine
 pub mod Lent
 pub mod Counted
 pub mod Kept
+pub mod Said

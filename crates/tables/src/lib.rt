@@ -1,5 +1,5 @@
 // The private tables as the rules have them, in lent words (views): loads and stores of a descriptor, of a noted length and of a list entry, and links
-// followed. Code above this crate speaks of the rules' tables and never of words, so that another storage changes this crate alone.
+// followed. Code above this crate passes the words on and never reads or stores one itself, so that where a word lies is said here and in views alone.
 ghost use mathlib.Core.Path.{_≡_};
 ghost use mathlib.Core.Bool.{Bool, false, cond};
 ghost use mathlib.Core.List.{List};

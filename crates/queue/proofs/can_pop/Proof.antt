@@ -40,13 +40,13 @@ fits-requires c κs = search needs
 call-refusal-requires : tie.Need-call-refusal-requires
 call-refusal-requires c κs = search needs
 
-refused-requires : tie.Need-refused-requires
-refused-requires c κs = search needs
+unmoved-requires : tie.Need-unmoved-requires
+unmoved-requires c κs = search needs
 
 returns : tie.Need-returns
 returns c =
     let s : tie.Start = c .before .before .before .before .before .before .before .before .before .before .before in
-    can-pop-no (s .args .c) (record-of s .tables) (memory-of s) (c .before .before .call-refusal .result) (number (c .before .before)) (c .refused .result) (c .refused .ensures) (c .before .if1 .taken)
+    can-pop-no (s .args .c) (record-of s .tables) (memory-of s) (c .before .before .call-refusal .result) (number (c .before .before)) (c .unmoved .result) (c .unmoved .ensures) (c .before .if1 .taken)
 
 load-used16-requires : tie.Need-load-used16-requires
 load-used16-requires c κs =
@@ -70,7 +70,7 @@ can-pop-spec =
     (tie.spec
     fits-requires
     call-refusal-requires
-    refused-requires
+    unmoved-requires
     returns
     load-used16-requires
     one-if-requires

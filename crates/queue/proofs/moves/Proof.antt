@@ -25,20 +25,20 @@ abbrev μ-loop : tie.MeasureT-loop
 μ-loop room words₀ lens₀ halves₀ sides₀ one₀ two pool₀ budget r₀ left₀ words lens halves sides one pool r left = left
 
 -- the run from its beginning
-started : (c : tie.After-refused Inv-loop μ-loop) → doneOf (c .refused .result) (tablesOf (c .before .before .before .before .before .before .before .before .args .room) (c .before .before .before .before .before .before .before .before .args .words .now) (c .before .before .before .before .before .before .before .before .args .lens .now) (c .before .before .before .before .before .before .before .before .args .halves .now) (c .before .before .before .before .before .before .before .before .args .sides .now)) (memory (c .before .before .before .before .before .before .before .before .args .one .now) (now (c .before .before .before .before .before .before .before .before .args .two)) (c .before .before .before .before .before .before .before .before .args .pool .now))
+started : (c : tie.After-unmoved Inv-loop μ-loop) → doneOf (c .unmoved .result) (tablesOf (c .before .before .before .before .before .before .before .before .args .room) (c .before .before .before .before .before .before .before .before .args .words .now) (c .before .before .before .before .before .before .before .before .args .lens .now) (c .before .before .before .before .before .before .before .before .args .halves .now) (c .before .before .before .before .before .before .before .before .args .sides .now)) (memory (c .before .before .before .before .before .before .before .before .args .one .now) (now (c .before .before .before .before .before .before .before .before .args .two)) (c .before .before .before .before .before .before .before .before .args .pool .now))
     ≡ opened (queueOf (c .before .before .before .before .before .before .before .before .args .c) (tablesOf (c .before .before .before .before .before .before .before .before .args .room) (c .before .before .before .before .before .before .before .before .args .words .now) (c .before .before .before .before .before .before .before .before .args .lens .now) (c .before .before .before .before .before .before .before .before .args .halves .now) (c .before .before .before .before .before .before .before .before .args .sides .now))) (memory (c .before .before .before .before .before .before .before .before .args .one .now) (now (c .before .before .before .before .before .before .before .before .args .two)) (c .before .before .before .before .before .before .before .before .args .pool .now))
 started c =
-    ap (λ o. doneOf o (tablesOf (c .before .before .before .before .before .before .before .before .args .room) (c .before .before .before .before .before .before .before .before .args .words .now) (c .before .before .before .before .before .before .before .before .args .lens .now) (c .before .before .before .before .before .before .before .before .args .halves .now) (c .before .before .before .before .before .before .before .before .args .sides .now)) (memory (c .before .before .before .before .before .before .before .before .args .one .now) (now (c .before .before .before .before .before .before .before .before .args .two)) (c .before .before .before .before .before .before .before .before .args .pool .now))) (c .refused .ensures)
+    ap (λ o. doneOf o (tablesOf (c .before .before .before .before .before .before .before .before .args .room) (c .before .before .before .before .before .before .before .before .args .words .now) (c .before .before .before .before .before .before .before .before .args .lens .now) (c .before .before .before .before .before .before .before .before .args .halves .now) (c .before .before .before .before .before .before .before .before .args .sides .now)) (memory (c .before .before .before .before .before .before .before .before .args .one .now) (now (c .before .before .before .before .before .before .before .before .args .two)) (c .before .before .before .before .before .before .before .before .args .pool .now))) (c .unmoved .ensures)
 
-refused-requires : tie.Need-refused-requires Inv-loop μ-loop
-refused-requires c κs =
+unmoved-requires : tie.Need-unmoved-requires Inv-loop μ-loop
+unmoved-requires c κs =
     search needs
 
 loop-holds : tie.Need-loop-holds Inv-loop μ-loop
 loop-holds c =
     let s : tie.Start Inv-loop μ-loop = c .before .before .before .before .before .before .before .before in
-    let e : c .refused .result .core ≡ s .args .c = ap (λ o. o .core) (c .refused .ensures) in
-    let z : c .refused .result .steps ≡ 0 = ap (λ o. o .steps) (c .refused .ensures) in (
+    let e : c .unmoved .result .core ≡ s .args .c = ap (λ o. o .core) (c .unmoved .ensures) in
+    let z : c .unmoved .result .steps ≡ 0 = ap (λ o. o .steps) (c .unmoved .ensures) in (
       record {
         same = refl;
         ready = subst (λ x. Ready x (s .args .room) (s .args .words .now) (s .args .lens .now) (s .args .halves .now) (s .args .sides .now)) (sym e) (s .pre .0);
@@ -161,7 +161,7 @@ moves-spec =
     (tie.spec
     Inv-loop
     μ-loop
-    refused-requires
+    unmoved-requires
     loop-holds
     is-open-requires
     same-length

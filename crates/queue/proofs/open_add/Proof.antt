@@ -48,8 +48,8 @@ add-refusal-requires : tie.Need-add-refusal-requires
 add-refusal-requires c κs =
     c .before .before .before .before .before .before .before .before .before .before .before .before .before .before .before .pre
 
-refused-requires : tie.Need-refused-requires
-refused-requires c κs = search needs
+unmoved-requires : tie.Need-unmoved-requires
+unmoved-requires c κs = search needs
 
 same-length : tie.Need-same-length
 same-length c = search needs
@@ -66,7 +66,7 @@ same-length-4 c = search needs
 returns : tie.Need-returns
 returns c =
     let s : tie.Start = c .before .before .before .before .before .before .before .before .before .before .before .before .before .before .before .before .before .before in
-    says-no (s .args .c) (record-of s .tables) (memory-of s) (opened (addOpened (record-of s) (list-of s)) (memory-of s)) (addRefusal (record-of s) (memory-of s) (list-of s)) (c .before .before .add-refusal .result) (c .refused .result) (c .refused .ensures) (number (c .before .before)) (c .before .if1 .taken)
+    says-no (s .args .c) (record-of s .tables) (memory-of s) (opened (addOpened (record-of s) (list-of s)) (memory-of s)) (addRefusal (record-of s) (memory-of s) (list-of s)) (c .before .before .add-refusal .result) (c .unmoved .result) (c .unmoved .ensures) (number (c .before .before)) (c .before .if1 .taken)
     ∙ sym (add-opening (record-of s) (memory-of s) (list-of s))
 
 open-add-requires : tie.Need-open-add-requires
@@ -76,8 +76,8 @@ open-add-requires c κs =
     let a : Ready (s .args .c) (s .args .room) (now (s .args .words)) (now (s .args .lens)) (now (s .args .halves)) (now (s .args .sides)) = ready (s .args .c) (s .args .room) (now (s .args .words)) (now (s .args .lens)) (now (s .args .halves)) (now (s .args .sides)) (s .pre) (indices s) (add-allowed (record-of s) (fits (record-of s) (memory-of s)) (list-of s) z .0) in
     (a, addable (record-of s) (memory-of s) (list-of s) (a .good .well) z)
 
-refused-requires-2 : tie.Need-refused-requires-2
-refused-requires-2 c κs = search needs
+unmoved-requires-2 : tie.Need-unmoved-requires-2
+unmoved-requires-2 c κs = search needs
 
 same-length-5 : tie.Need-same-length-5
 same-length-5 c = search needs
@@ -95,7 +95,7 @@ returns-2 : tie.Need-returns-2
 returns-2 c =
     let s : tie.Start = c .before .before .before .before .before .before .before .before .before .before .before .before .before .before .before .before .before .before .before .before .before .before .before .before .before .before .before .before .before .before .before in
     let t : Tables = tablesOf (s .args .room) (c .before .before .before .before .before .before .before .before .before .open-add .last .1 .1 .0) (c .before .before .before .before .before .before .before .before .before .open-add .last .1 .1 .1 .0) (c .before .before .before .before .before .before .before .before .before .open-add .last .1 .1 .1 .1 .0) (c .before .before .before .before .before .before .before .before .before .open-add .last .1 .1 .1 .1 .1 .0) in
-    says-yes (record-of s) (memory-of s) (opened (addOpened (record-of s) (list-of s)) (memory-of s)) (doneOf (c .refused2 .result) t (memory-of s)) (addRefusal (record-of s) (memory-of s) (list-of s)) (c .before .before .before .before .before .before .before .before .before .before .before .before .before .before .before .add-refusal .result) (number (c .before .before .before .before .before .before .before .before .before .before .before .before .before .before .before)) (c .before .before .before .before .before .before .before .before .before .before .before .before .before .before .if1 .left) (ap (λ y. doneOf y t (memory-of s)) (c .refused2 .ensures) ∙ ap (λ y. opened y (memory-of s)) (c .before .before .before .before .before .before .before .before .before .open-add .ensures))
+    says-yes (record-of s) (memory-of s) (opened (addOpened (record-of s) (list-of s)) (memory-of s)) (doneOf (c .unmoved2 .result) t (memory-of s)) (addRefusal (record-of s) (memory-of s) (list-of s)) (c .before .before .before .before .before .before .before .before .before .before .before .before .before .before .before .add-refusal .result) (number (c .before .before .before .before .before .before .before .before .before .before .before .before .before .before .before)) (c .before .before .before .before .before .before .before .before .before .before .before .before .before .before .if1 .left) (ap (λ y. doneOf y t (memory-of s)) (c .unmoved2 .ensures) ∙ ap (λ y. opened y (memory-of s)) (c .before .before .before .before .before .before .before .before .before .open-add .ensures))
     ∙ sym (add-opening (record-of s) (memory-of s) (list-of s))
 
 pub open-add-spec : {M : Type 1} → statement M
@@ -104,14 +104,14 @@ open-add-spec =
     (tie.spec
     fits-requires
     add-refusal-requires
-    refused-requires
+    unmoved-requires
     same-length
     same-length-2
     same-length-3
     same-length-4
     returns
     open-add-requires
-    refused-requires-2
+    unmoved-requires-2
     same-length-5
     same-length-6
     same-length-7

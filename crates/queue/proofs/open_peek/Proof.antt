@@ -34,25 +34,25 @@ fits-requires c κs = search needs
 call-refusal-requires : tie.Need-call-refusal-requires
 call-refusal-requires c κs = search needs
 
-refused-requires : tie.Need-refused-requires
-refused-requires c κs = search needs
+unmoved-requires : tie.Need-unmoved-requires
+unmoved-requires c κs = search needs
 
 returns : tie.Need-returns
 returns c =
     let s : tie.Start = c .before .before .before .before .before .before .before .before .before .before .before in
-    says-no (s .args .c) (record-of s .tables) (memory-of s) (opened (withCall (record-of s) PeekIdx) (memory-of s)) (callRefusal (record-of s) (memory-of s)) (c .before .before .call-refusal .result) (c .refused .result) (c .refused .ensures) (number (c .before .before)) (c .before .if1 .taken)
+    says-no (s .args .c) (record-of s .tables) (memory-of s) (opened (withCall (record-of s) PeekIdx) (memory-of s)) (callRefusal (record-of s) (memory-of s)) (c .before .before .call-refusal .result) (c .unmoved .result) (c .unmoved .ensures) (number (c .before .before)) (c .before .if1 .taken)
     ∙ sym (peek-opening (record-of s) (memory-of s))
 
 with-call-requires : tie.Need-with-call-requires
 with-call-requires c κs = search needs
 
-refused-requires-2 : tie.Need-refused-requires-2
-refused-requires-2 c κs = search needs
+unmoved-requires-2 : tie.Need-unmoved-requires-2
+unmoved-requires-2 c κs = search needs
 
 returns-2 : tie.Need-returns-2
 returns-2 c =
     let s : tie.Start = c .before .before .before .before .before .before .before .before .before .before .before .before in
-    says-yes (record-of s) (memory-of s) (opened (withCall (record-of s) PeekIdx) (memory-of s)) (doneOf (c .refused2 .result) (record-of s .tables) (memory-of s)) (callRefusal (record-of s) (memory-of s)) (c .before .before .before .call-refusal .result) (number (c .before .before .before)) (c .before .before .if1 .left) (ap (λ y. doneOf y (record-of s .tables) (memory-of s)) (c .refused2 .ensures) ∙ ap (λ y. opened (queueOf y (record-of s .tables)) (memory-of s)) (c .before .with-call .ensures))
+    says-yes (record-of s) (memory-of s) (opened (withCall (record-of s) PeekIdx) (memory-of s)) (doneOf (c .unmoved2 .result) (record-of s .tables) (memory-of s)) (callRefusal (record-of s) (memory-of s)) (c .before .before .before .call-refusal .result) (number (c .before .before .before)) (c .before .before .if1 .left) (ap (λ y. doneOf y (record-of s .tables) (memory-of s)) (c .unmoved2 .ensures) ∙ ap (λ y. opened (queueOf y (record-of s .tables)) (memory-of s)) (c .before .with-call .ensures))
     ∙ sym (peek-opening (record-of s) (memory-of s))
 
 pub open-peek-spec : {M : Type 1} → statement M
@@ -61,8 +61,8 @@ open-peek-spec =
     (tie.spec
     fits-requires
     call-refusal-requires
-    refused-requires
+    unmoved-requires
     returns
     with-call-requires
-    refused-requires-2
+    unmoved-requires-2
     returns-2)

@@ -51,13 +51,13 @@ fits-requires c κs = search needs
 call-refusal-requires : tie.Need-call-refusal-requires
 call-refusal-requires c κs = search needs
 
-refused-requires : tie.Need-refused-requires
-refused-requires c κs = search needs
+unmoved-requires : tie.Need-unmoved-requires
+unmoved-requires c κs = search needs
 
 returns : tie.Need-returns
 returns c =
     let s : tie.Start = c .before .before .before .before .before .before .before .before .before .before .before .before .before .before in
-    says-no (s .args .c) (record-of s .tables) (memory-of s) (opening s) (callRefusal (record-of s) (memory-of s)) (c .before .before .call-refusal .result) (c .refused .result) (c .refused .ensures) (number (c .before .before)) (c .before .if1 .taken)
+    says-no (s .args .c) (record-of s .tables) (memory-of s) (opening s) (callRefusal (record-of s) (memory-of s)) (c .before .before .call-refusal .result) (c .unmoved .result) (c .unmoved .ensures) (number (c .before .before)) (c .before .if1 .taken)
     ∙ sym (pop-opening (record-of s) (memory-of s) (s .args .token) (list-of s))
 
 matches-requires : tie.Need-matches-requires
@@ -68,13 +68,13 @@ matches-requires c κs =
 with-call-requires : tie.Need-with-call-requires
 with-call-requires c κs = search needs
 
-refused-requires-2 : tie.Need-refused-requires-2
-refused-requires-2 c κs = search needs
+unmoved-requires-2 : tie.Need-unmoved-requires-2
+unmoved-requires-2 c κs = search needs
 
 returns-2 : tie.Need-returns-2
 returns-2 c =
     let s : tie.Start = c .before .before .before .before .before .before .before .before .before .before .before .before .before .before .before .before in
-    says-yes (record-of s) (memory-of s) (opening s) (doneOf (c .refused2 .result) (record-of s .tables) (memory-of s)) (callRefusal (record-of s) (memory-of s)) (c .before .before .before .before .call-refusal .result) (number (c .before .before .before .before)) (c .before .before .before .if1 .left) (ap (λ y. doneOf y (record-of s .tables) (memory-of s)) (c .refused2 .ensures) ∙ ap (λ y. opened (queueOf y (record-of s .tables)) (memory-of s)) (c .before .with-call .ensures) ∙ ap (λ b. opened (withCall (record-of s) (PopIdx (s .args .token) b)) (memory-of s)) (c .before .before .matches .ensures))
+    says-yes (record-of s) (memory-of s) (opening s) (doneOf (c .unmoved2 .result) (record-of s .tables) (memory-of s)) (callRefusal (record-of s) (memory-of s)) (c .before .before .before .before .call-refusal .result) (number (c .before .before .before .before)) (c .before .before .before .if1 .left) (ap (λ y. doneOf y (record-of s .tables) (memory-of s)) (c .unmoved2 .ensures) ∙ ap (λ y. opened (queueOf y (record-of s .tables)) (memory-of s)) (c .before .with-call .ensures) ∙ ap (λ b. opened (withCall (record-of s) (PopIdx (s .args .token) b)) (memory-of s)) (c .before .before .matches .ensures))
     ∙ sym (pop-opening (record-of s) (memory-of s) (s .args .token) (list-of s))
 
 pub open-pop-spec : {M : Type 1} → statement M
@@ -83,9 +83,9 @@ open-pop-spec =
     (tie.spec
     fits-requires
     call-refusal-requires
-    refused-requires
+    unmoved-requires
     returns
     matches-requires
     with-call-requires
-    refused-requires-2
+    unmoved-requires-2
     returns-2)

@@ -37,8 +37,8 @@ step-refusal-requires : tie.Need-step-refusal-requires
 step-refusal-requires c κs =
     c .before .before .before .before .before .before .before .before .before .before .before .before .pre
 
-refused-requires : tie.Need-refused-requires
-refused-requires c κs = search needs
+unmoved-requires : tie.Need-unmoved-requires
+unmoved-requires c κs = search needs
 
 same-length : tie.Need-same-length
 same-length c = search needs
@@ -55,7 +55,7 @@ same-length-4 c = search needs
 returns : tie.Need-returns
 returns c =
     let s : tie.Start = c .before .before .before .before .before .before .before .before .before .before .before .before .before .before .before in
-    says-no (s .args .c) (record-of s .tables) (memory-of s) (moves (s .args .budget) (opened (record-of s) (memory-of s))) (stepRefusal (record-of s) (memory-of s)) (c .before .before .step-refusal .result) (c .refused .result) (c .refused .ensures) (number (c .before .before)) (c .before .if1 .taken)
+    says-no (s .args .c) (record-of s .tables) (memory-of s) (moves (s .args .budget) (opened (record-of s) (memory-of s))) (stepRefusal (record-of s) (memory-of s)) (c .before .before .step-refusal .result) (c .unmoved .result) (c .unmoved .ensures) (number (c .before .before)) (c .before .if1 .taken)
     ∙ sym (run-opening (record-of s) (memory-of s) (s .args .budget))
 
 moves-requires : tie.Need-moves-requires
@@ -96,7 +96,7 @@ run-spec =
     (tie.spec
     fits-requires
     step-refusal-requires
-    refused-requires
+    unmoved-requires
     same-length
     same-length-2
     same-length-3

@@ -41,13 +41,13 @@ fits-requires c κs = search needs
 call-refusal-requires : tie.Need-call-refusal-requires
 call-refusal-requires c κs = search needs
 
-refused-requires : tie.Need-refused-requires
-refused-requires c κs = search needs
+unmoved-requires : tie.Need-unmoved-requires
+unmoved-requires c κs = search needs
 
 returns : tie.Need-returns
 returns c =
     let s : tie.Start = c .before .before .before .before .before .before .before .before .before .before .before in
-    set-dev-notify-no (s .args .c) (record-of s .tables) (memory-of s) (c .before .before .call-refusal .result) (number (c .before .before)) (c .refused .result) (c .refused .ensures) (c .before .if1 .taken) (s .args .wanted)
+    set-dev-notify-no (s .args .c) (record-of s .tables) (memory-of s) (c .before .before .call-refusal .result) (number (c .before .before)) (c .unmoved .result) (c .unmoved .ensures) (c .before .if1 .taken) (s .args .wanted)
 
 answered-requires : tie.Need-answered-requires
 answered-requires c κs = search needs
@@ -86,7 +86,7 @@ set-dev-notify-spec =
     (tie.spec
     fits-requires
     call-refusal-requires
-    refused-requires
+    unmoved-requires
     returns
     answered-requires
     returns-2

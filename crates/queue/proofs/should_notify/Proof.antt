@@ -41,13 +41,13 @@ fits-requires c κs = search needs
 call-refusal-requires : tie.Need-call-refusal-requires
 call-refusal-requires c κs = search needs
 
-refused-requires : tie.Need-refused-requires
-refused-requires c κs = search needs
+unmoved-requires : tie.Need-unmoved-requires
+unmoved-requires c κs = search needs
 
 returns : tie.Need-returns
 returns c =
     let s : tie.Start = c .before .before .before .before .before .before .before .before .before .before .before in
-    should-notify-no (s .args .c) (record-of s .tables) (memory-of s) (c .before .before .call-refusal .result) (number (c .before .before)) (c .refused .result) (c .refused .ensures) (c .before .if1 .taken)
+    should-notify-no (s .args .c) (record-of s .tables) (memory-of s) (c .before .before .call-refusal .result) (number (c .before .before)) (c .unmoved .result) (c .unmoved .ensures) (c .before .if1 .taken)
 
 cast-load-used16 : tie.Need-cast-load-used16
 cast-load-used16 c = search needs
@@ -99,7 +99,7 @@ should-notify-spec =
     (tie.spec
     fits-requires
     call-refusal-requires
-    refused-requires
+    unmoved-requires
     returns
     cast-load-used16
     mul-load-used16
