@@ -19,12 +19,12 @@ use Rattle.rules.specs.declared.Open.the-variants.{PopIdx}
 use Rattle.rules.specs.Record.{Queue, nextOf, chainOf, entriesOf, isOpen, withCall}
 use Rattle.rules.specs.Answer.{Outcome, refused, unless}
 use Rattle.rules.specs.Step.{loaded, access, store, move}
-use Rattle.rules.specs.Calls.{addRefusal, callRefusal, stepRefusal, filled, more?, fill, headDesc, addDirect, addIndirect, addOpened, opened, matches, openAdd, openPop, andThen, moves, run, whole, add, popUsed, answered, setDevNotify}
+use Rattle.rules.specs.Calls.{addRefusal, callRefusal, stepRefusal, filled, more?, fill, headDesc, addDirect, addIndirect, addOpened, opened, matches, openAdd, openPop, andThen, moves, run, step, whole, add, popUsed, answered, setDevNotify}
 use Rattle.laws.specs.FillLaws.{filled-direct, fill-links}
 use Rattle.laws.specs.AddKeeps.{Addable}
 use Rattle.laws.specs.CallKeeps.{Good, move-keeps, open-pop-keeps}
 use Rattle.laws.specs.Opening.{addable, open-add-keeps}
-use Rattle.laws.specs.Changes.{Clear, SameByte, publishing, addPlaces, addingPlaces, popPlaces, notifyPlaces, openPlaces, access-changes, step-changes, clear-on}
+use Rattle.laws.specs.Changes.{Clear, SameByte, publishing, addPlaces, addingPlaces, popPlaces, notifyPlaces, openPlaces, Outside, access-changes, step-changes, step-changes-one, clear-on}
 
 -- ---- what holds of runs and of whole calls
 
@@ -81,6 +81,16 @@ pub run-changes : (b : ℕ) (q : Queue) (m : Memory) → Good q → (r : Region)
 unfolding run
 run-changes b q m g r i c =
     unless-holds (λ o. SameByte r i (o .memory) m) (stepRefusal q m) q m _ refl (λ z. moves-kept r i m b q g c)
+
+-- THE LAW of a public step, refused or not: it changes no byte outside the one place that its own access stores to
+pub step-call-changes : (q : Queue) (m : Memory) (r : Region) (i : ℕ) → Outside q (access q (q .call)) r i → SameByte r i (step q m .memory) m
+unfolding run moves
+step-call-changes q m r i f =
+    unless-holds (λ o. SameByte r i (o .memory) m) (stepRefusal q m) q m _ refl (λ z. go (isOpen (q .call)))
+  where
+    go : (b : Bool) → SameByte r i (cond b (andThen (opened q m) (move q m)) (opened q m) .memory) m
+    go true = step-changes-one q m r i f
+    go false = refl
 
 -- ---- pop
 

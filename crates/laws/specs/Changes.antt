@@ -285,6 +285,29 @@ unfolding move
 step-changes q m w r i c =
     access-changes q m (access q (q .call)) (openPlaces q (q .call)) r i (access-wide q (q .call)) (step-stores q w (q .call) refl) c
 
+-- byte i of region r does not lie in the place that the access stores to, where it stores
+abbrev pub Outside : Queue → Access → Region → ℕ → Type 0
+Outside q nothing r i = Unit {0}
+Outside q (load p) r i = Unit {0}
+Outside q (store p v) r i = Lies r i (spot (q .modes .legacy) (q .n) p) → ⊥
+Outside q (storeDesc p d) r i = Lies r i (spot (q .modes .legacy) (q .n) p) → ⊥
+
+module _ (q : Queue) (r : Region) (i : ℕ) where
+  only : (p : Place) → (Lies r i (spot (q .modes .legacy) (q .n) p) → ⊥) → Clear q (p ∷ []) r i
+  only p f x (inl e) l = f (subst (λ y. Lies r i (spot (q .modes .legacy) (q .n) y)) e l)
+  only p f x (inr a) l = absurd a
+
+  pub access-changes-one : (m : Memory) (a : Access) → Wide q a → Outside q a r i → SameByte r i (accessed q a m) m
+  access-changes-one m nothing w f = refl
+  access-changes-one m (load p) w f = refl
+  access-changes-one m (store p v) w f = access-changes q m (store p v) (p ∷ []) r i w (inl refl) (only p f)
+  access-changes-one m (storeDesc p d) w f = access-changes q m (storeDesc p d) (p ∷ []) r i w (inl refl) (only p f)
+
+-- THE LAW of the one place: over any record a step changes no byte outside the place that its own access stores to, and none at all where it stores nothing
+pub step-changes-one : (q : Queue) (m : Memory) (r : Region) (i : ℕ) → Outside q (access q (q .call)) r i → SameByte r i (move q m .memory) m
+unfolding move
+step-changes-one q m r i f = access-changes-one q r i m (access q (q .call)) (access-wide q (q .call)) f
+
 pub step-lengths : (q : Queue) (m : Memory) → SameLengths (move q m .memory) m
 unfolding move
 step-lengths q m = access-lengths q m (access q (q .call))

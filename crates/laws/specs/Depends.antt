@@ -199,7 +199,7 @@ AlikeBytes q [] (m′ ∷ ms′) = ⊥
 AlikeBytes q (m ∷ ms) [] = ⊥
 AlikeBytes q (m ∷ ms) (m′ ∷ ms′) = SameLoaded q (access q (q .call)) m m′ × AlikeBytes (move q m .queue) ms ms′
 
-bytes-loaded : (q : Queue) (a : Access) (m m′ : Memory) → SameLoaded q a m m′ → loaded q a m ≡ loaded q a m′
+pub bytes-loaded : (q : Queue) (a : Access) (m m′ : Memory) → SameLoaded q a m m′ → loaded q a m ≡ loaded q a m′
 bytes-loaded q nothing m m′ s = refl
 bytes-loaded q (load p) m m′ s = bytes-load q p m m′ s
 bytes-loaded q (store p v) m m′ s = refl

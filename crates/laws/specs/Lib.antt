@@ -18,15 +18,17 @@
 --   Reads, DirectReads, ListReads, Published   what an add publishes is read by VIRTIO's rules as the list given, direct and indirect
 -- Runs and whole calls:
 --   Runs          how one run follows another, and how many steps they count
---   StepsLeft     how many steps an open call still takes, so that n + 4 close it and a run takes the lesser of its budget and those
+--   StepsLeft     how many steps an open call may still take at most, so that n + 4 close it and a run takes the lesser of its budget and of what those take
 --   Regions       steps keep the layout and the lengths of the regions
 --   Whole         add, pop and peek: closed, and the opening and its steps, however shared out among runs
 --   Popped        pop and peek in closed form
+--   StepsExact    exactly how many it still takes on the memory that it finds, with nothing in between
 --   PopFrees      a pop, and each of its steps, frees its token's chain or nothing
 -- Who writes what:
---   Writers       a step stores to the driver's fields and loads the device's, and no others
+--   Writers       a step makes exactly one access; it stores to the driver's fields and loads the device's, and no others
 -- What calls depend on, and what they change:
 --   Depends, CallDepends   what answers and records depend on, of shared memory: of a step and a run; of an opening and a whole call
+--   StepsAlike    the same of successive public steps, whatever becomes of the memory in between
 --   Changes       which bytes an access and a step may change
 --   CallChanges   which bytes runs and whole calls may change
 --   Still         what leaves the memory as it is: openings, peek, and every refusal; and all lengths
@@ -57,10 +59,12 @@ pub mod StepsLeft
 pub mod Regions
 pub mod Whole
 pub mod Popped
+pub mod StepsExact
 pub mod PopFrees
 pub mod Writers
 pub mod Depends
 pub mod CallDepends
+pub mod StepsAlike
 pub mod Changes
 pub mod CallChanges
 pub mod Still

@@ -1,5 +1,5 @@
--- How many steps an open call still takes: at most n + 4, and each step lowers it. So n + 4 steps close a call, and a run takes the lesser of its budget and
--- the steps left.
+-- How many steps an open call may still take at most: no more than n + 4, and each step lowers the bound. So n + 4 steps close a call, and a run takes the
+-- lesser of its budget and of what n + 4 steps would take; StepsExact has the exact number.
 use mathlib.Core.Path.{_≡_, refl, ap, subst, _∙_}
 use mathlib.Core.Bool.{Bool, true, false, not, cond, false≢true}
 use mathlib.Core.List.{List, [], _∷_}
@@ -25,26 +25,26 @@ use Rattle.laws.specs.StepKeeps.{one-most}
 use Rattle.laws.specs.CallKeeps.{Good, move-keeps}
 use Rattle.laws.specs.Runs.{move-at, onward, onward-steps, moves-closed, moves-open, steps-lesser}
 
--- ---- the steps left
+-- ---- the most steps that may be left
 
 module _ (q : Queue) where
   -- the stores of a pop behind its loads, where its token is outstanding
   abbrev pub storesDue : ℕ → ℕ
   storesDue t = cond (outstanding q t) (storeSteps q (storedCount q t)) 0
 
-  -- those of a call: exact for an add and a storing pop, and as many as there may be for a pop or a peek that still loads
-  abbrev pub leftOf : Open → ℕ
-  leftOf Idle = 0
-  leftOf (Add h i) = addSteps q h - i
-  leftOf (PopIdx t b) = 3 + storesDue t
-  leftOf (PopId t b) = 2 + storesDue t
-  leftOf (PopLen t b d) = 1 + storesDue t
-  leftOf (PopStore k i l) = storeSteps q k - i
-  leftOf PeekIdx = 2
-  leftOf PeekId = 1
+  -- the most that a call may still take, whatever it loads: no fewer for an add and a storing pop, and perhaps fewer for a pop or a peek that still loads
+  abbrev pub leftMost : Open → ℕ
+  leftMost Idle = 0
+  leftMost (Add h i) = addSteps q h - i
+  leftMost (PopIdx t b) = 3 + storesDue t
+  leftMost (PopId t b) = 2 + storesDue t
+  leftMost (PopLen t b d) = 1 + storesDue t
+  leftMost (PopStore k i l) = storeSteps q k - i
+  leftMost PeekIdx = 2
+  leftMost PeekId = 1
 
-  abbrev pub stepsLeft : ℕ
-  stepsLeft = leftOf (q .call)
+  abbrev pub stepsMost : ℕ
+  stepsMost = leftMost (q .call)
 
 pick-most : (b : Bool) (x y m : ℕ) → (b ≡ true → x ≤ m) → (b ≡ false → y ≤ m) → cond b x y ≤ m
 pick-most true x y m f g = f refl
@@ -68,7 +68,7 @@ module _ (q : Queue) (w : WellFormed q) where
       omega (arith, one-most (q .modes .«event_idx»)))
       (λ e. omega arith)
 
-  left-most : (c : Open) → Named q c → leftOf q c ≤ q .n + 4
+  left-most : (c : Open) → Named q c → leftMost q c ≤ q .n + 4
   left-most Idle n = omega arith
   left-most (Add h i) n = omega (arith, size-most h (n .head))
   left-most (PopIdx t b) n = omega (arith, due-most t)
@@ -81,12 +81,12 @@ module _ (q : Queue) (w : WellFormed q) where
   left-most PeekId n = omega arith
 
 -- at most n + 4
-pub left-bound : (q : Queue) → Good q → stepsLeft q ≤ q .n + 4
+pub left-bound : (q : Queue) → Good q → stepsMost q ≤ q .n + 4
 left-bound q g = left-most q (g .well) (q .call) (g .well .call)
 
--- ---- a step lowers them, whatever number it loads
+-- ---- a step lowers that bound, whatever number it loads
 
-either : (b : Bool) (x y : Reaction) (m : ℕ) → (b ≡ true → stepsLeft (x .queue) < m) → (b ≡ false → stepsLeft (y .queue) < m) → stepsLeft (cond b x y .queue) < m
+either : (b : Bool) (x y : Reaction) (m : ℕ) → (b ≡ true → stepsMost (x .queue) < m) → (b ≡ false → stepsMost (y .queue) < m) → stepsMost (cond b x y .queue) < m
 either true x y m f g = f refl
 either false x y m f g = g refl
 
@@ -98,7 +98,7 @@ module _ (q : Queue) where
       let n : NoneOf ts = first-none ts (omega arith) e in
       (eqb-true (tokenOf d) t (not-false (eqb (tokenOf d) t) (n .0)), not-false (outstanding q t) (n .1 .0), not-false b (n .1 .1 .0))
 
-  pub react-lowers : (c : Open) → Named q c → isOpen c ≡ true → (v : ℕ) → stepsLeft (react q c v .queue) < leftOf q c
+  pub react-lowers : (c : Open) → Named q c → isOpen c ≡ true → (v : ℕ) → stepsMost (react q c v .queue) < leftMost q c
   react-lowers Idle n o v = absurd (false≢true o)
   react-lowers (Add h i) n o v =
       let s : i < addSteps q h = n .step in
@@ -118,13 +118,13 @@ module _ (q : Queue) where
   react-lowers PeekId n o v = omega arith
 
 -- THE LAW of a step
-pub step-lowers : (q : Queue) (m : Memory) → Good q → isOpen (q .call) ≡ true → stepsLeft (move q m .queue) < stepsLeft q
+pub step-lowers : (q : Queue) (m : Memory) → Good q → isOpen (q .call) ≡ true → stepsMost (move q m .queue) < stepsMost q
 unfolding move
 step-lowers q m g o = react-lowers q (q .call) (g .well .call) o (loaded q (access q (q .call)) m)
 
--- ---- so a run of as many steps as are left closes the call
+-- ---- so a run of as many steps as may be left closes the call
 
-pub run-closes : (b : ℕ) (o : Outcome) → Good (o .queue) → stepsLeft (o .queue) ≤ b → isOpen (moves b o .queue .call) ≡ false
+pub run-closes : (b : ℕ) (o : Outcome) → Good (o .queue) → stepsMost (o .queue) ≤ b → isOpen (moves b o .queue .call) ≡ false
 unfolding moves
 run-closes zero o g l =
     by-test (isOpen (o .queue .call)) (λ e. absurd (omega (arith, step-lowers (o .queue) (o .memory) g e))) (λ e. e)
@@ -138,8 +138,8 @@ run-closes (suc b) o g l =
 pub closes : (q : Queue) (m : Memory) → Good q → isOpen (moves (q .n + 4) (opened q m) .queue .call) ≡ false
 closes q m g = run-closes (q .n + 4) (opened q m) g (left-bound q g)
 
--- and no run takes more than are left
-pub left-covers : (b : ℕ) (o : Outcome) → Good (o .queue) → moves b o .steps ≤ o .steps + stepsLeft (o .queue)
+-- and no run takes more than may be left
+pub left-covers : (b : ℕ) (o : Outcome) → Good (o .queue) → moves b o .steps ≤ o .steps + stepsMost (o .queue)
 unfolding moves
 left-covers zero o g = omega arith
 left-covers (suc b) o g =
