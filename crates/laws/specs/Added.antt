@@ -1,5 +1,5 @@
--- The whole call add in closed form: its answer, value and steps, the record and the memory that it leaves; and where its descriptors came from, its list, and
--- the chains of others.
+-- The whole call add in closed form: its answer, value and steps, the record and the memory that it leaves; and, of it and of its opening, where its descriptors
+-- came from, its list, the chains of others and all other noted lengths.
 use mathlib.Core.Path.{_≡_, refl, sym, ap, ap₂, _∙_, subst}
 use mathlib.Core.Bool.{Bool, true, false, cond, _&&_}
 use mathlib.Core.Logic.{_⊎_, inl, inr}
@@ -9,7 +9,7 @@ use native.Mathlib.Omega.{arith}
 use borrow.Author.Tests.{lt-ltb, le-ltb, eq-eqb, ne-eqb, ltb-true, ltb-false}
 use lib.Dec.{ltb, eqb}
 use lib.ListN.{length, length-map}
-use lib.Seq.{getD-set-same}
+use lib.Seq.{getD-set-same, getD-set-other}
 use Rattle.lists.specs.Index.{after}
 use Rattle.lists.specs.Tests.{by-test, and-left, and-right}
 use Rattle.lists.specs.Pick.{rising, run-of}
@@ -23,7 +23,7 @@ use Rattle.rules.specs.Record.{Queue, descOf, nextOf, notedOf, freeList, chainO
 use Rattle.rules.specs.WellFormed.{stepsOfAdd, addSteps}
 use Rattle.rules.specs.Meaning.{Out}
 use Rattle.rules.specs.Answer.{Outcome, refused}
-use Rattle.rules.specs.Step.{Access, store, storeDesc, accessed, bufferStore, addAccess, Reaction, goesOn, ends, move}
+use Rattle.rules.specs.Step.{Access, store, storeDesc, accessed, bufferStore, addAccess, Reaction, goesOn, ends, react, move}
 use Rattle.rules.specs.Calls.{addRefusal, addDirect, addIndirect, addOpened, opened, openAdd, andThen, moves, whole, add}
 use Rattle.laws.specs.AddKeeps.{Addable, direct-takes, direct-adds, direct-others}
 use Rattle.laws.specs.ListKeeps.{list-takes, list-adds, list-others}
@@ -123,12 +123,22 @@ module _ (p : Queue) (h : ℕ) where
       ∙ ap (λ i. added i (finished p h m)) e
 
   -- all of them
-  open-done : (b : ℕ) (m : Memory) → k + 3 ≤ b → moves b (at 0 m) ≡ added (stepsOfAdd k) (published p h k m)
-  open-done b m l =
+  steps-done : (b : ℕ) (m : Memory) → k + 3 ≤ b → moves b (at 0 m) ≡ added (stepsOfAdd k) (published p h k m)
+  steps-done b m l =
       let e : b ≡ k + suc (suc (suc (b - 3 - k))) = omega arith in
       ap (λ c. moves c (at 0 m)) e
       ∙ buffers-stored k (suc (suc (suc (b - 3 - k)))) m (omega arith)
       ∙ three (b - 3 - k) (stored p h k m)
+
+-- THE LAW of each step of an open add: it leaves all but avail_idx and the open call as it was
+pub add-step-keeps : (q : Queue) (h i v : ℕ) → react q (Add h i) v .queue ≡ withCall (withAvail q (react q (Add h i) v .queue .counts .avail)) (react q (Add h i) v .queue .call)
+add-step-keeps q h i v = go (ltb (i + 1) (addSteps q h)) _ _ refl refl
+  where
+    go : (b : Bool) (x y : Reaction) → x .queue ≡ withCall (withAvail q (x .queue .counts .avail)) (x .queue .call)
+        → y .queue ≡ withCall (withAvail q (y .queue .counts .avail)) (y .queue .call)
+        → cond b x y .queue ≡ withCall (withAvail q (cond b x y .queue .counts .avail)) (cond b x y .queue .call)
+    go true x y f g = f
+    go false x y f g = g
 
 -- ---- the record opened
 
@@ -202,9 +212,39 @@ module _ (q : Queue) (m : Memory) (bs : List Buffer) (g : Good q) (e : addRefusa
   opened-others =
       by-opening q bs able Others (list-others q bs (g .held) (g .well) able) (direct-others q bs (g .held) (g .well) able)
 
+  -- every other number's noted length, whether it headed a chain or not
+  abbrev Noted : Queue → Type 0
+  Noted r = (h : ℕ) → (h ≡ q .counts .free → ⊥) → notedOf r h ≡ notedOf q h
+
+  opened-noted : Noted p
+  opened-noted =
+      by-opening q bs able Noted (λ i l h d. getD-set-other (q .tables .noted) head h 1 0 d)
+      (λ i h d. getD-set-other (q .tables .noted) head h (length bs) 0 d)
+
   -- so it has as many buffers as were given
   opened-size : sizeOf p head ≡ length bs
   opened-size = sym (size-length p head) ∙ ap length opened-adds
+
+  -- ---- the call open
+
+  -- THE LAWS of what the opening leaves: its closed form; the free list was the new chain's descriptors, and then what is free now; the new chain's list is
+  -- the one given; every other chain and list is as it was, and every other number's noted length
+  pub open-done : openAdd q m bs ≡ opened (addOpened q bs) m
+  unfolding openAdd
+  open-done =
+      ap (λ b. cond b (opened p m) (refused (addRefusal q m bs) q m)) (eq-eqb (addRefusal q m bs) 0 e)
+
+  pub open-takes : freeList q ≡ chainOf (openAdd q m bs .queue) (q .counts .free) ++ freeList (openAdd q m bs .queue)
+  open-takes = opened-takes ∙ ap (λ (o : Outcome). chainOf (o .queue) head ++ freeList (o .queue)) (sym open-done)
+
+  pub open-adds : buffersOf (openAdd q m bs .queue) (q .counts .free) ≡ bs
+  open-adds = ap (λ (o : Outcome). buffersOf (o .queue) head) open-done ∙ opened-adds
+
+  pub open-others : (h : ℕ) → Out q h → (chainOf (openAdd q m bs .queue) h ≡ chainOf q h) × (buffersOf (openAdd q m bs .queue) h ≡ buffersOf q h) × (notedOf (openAdd q m bs .queue) h ≡ notedOf q h)
+  open-others = subst (λ (o : Outcome). Others (o .queue)) (sym open-done) opened-others
+
+  pub open-noted : (h : ℕ) → (h ≡ q .counts .free → ⊥) → notedOf (openAdd q m bs .queue) h ≡ notedOf q h
+  open-noted = subst (λ (o : Outcome). Noted (o .queue)) (sym open-done) opened-noted
 
   -- ---- the whole call
 
@@ -216,18 +256,16 @@ module _ (q : Queue) (m : Memory) (bs : List Buffer) (g : Good q) (e : addRefusa
     queue = withCall (withAvail (addOpened q bs) (after (q .counts .avail))) Idle;
     memory = published (addOpened q bs) (q .counts .free) (length bs) m;
   }
-  unfolding openAdd
   add-done =
       let l : length bs ≤ q .n = able .most in
       let k : sizeOf p head ≡ length bs = opened-size in
-      let t : eqb (addRefusal q m bs) 0 ≡ true = eq-eqb (addRefusal q m bs) 0 e in
-      ap (λ b. whole (q .n) (cond b (opened p m) (refused (addRefusal q m bs) q m))) t
+      ap (whole (q .n)) open-done
       ∙ ap (λ c. moves (q .n + 4) (opened (withCall p c) m)) opened-call
-      ∙ open-done p head (q .n + 4) m (omega arith)
+      ∙ steps-done p head (q .n + 4) m (omega arith)
       ∙ ap₂ (λ j x. record { answer = 0; value = head; steps = stepsOfAdd j; queue = withCall (withAvail p (after x)) Idle; memory = published p head j m }) k opened-avail
 
   -- THE LAWS of what it leaves: the free list was the new chain's descriptors, and then what is free now; the new chain's list is the one given; every other
-  -- chain, list and noted length is as it was
+  -- chain and list is as it was, and every other number's noted length
   pub add-takes : freeList q ≡ chainOf (add q m bs .queue) (q .counts .free) ++ freeList (add q m bs .queue)
   add-takes = opened-takes ∙ ap (λ (o : Outcome). chainOf (o .queue) head ++ freeList (o .queue)) (sym add-done)
 
@@ -236,3 +274,6 @@ module _ (q : Queue) (m : Memory) (bs : List Buffer) (g : Good q) (e : addRefusa
 
   pub add-others : (h : ℕ) → Out q h → (chainOf (add q m bs .queue) h ≡ chainOf q h) × (buffersOf (add q m bs .queue) h ≡ buffersOf q h) × (notedOf (add q m bs .queue) h ≡ notedOf q h)
   add-others = subst (λ (o : Outcome). Others (o .queue)) (sym add-done) opened-others
+
+  pub add-noted : (h : ℕ) → (h ≡ q .counts .free → ⊥) → notedOf (add q m bs .queue) h ≡ notedOf q h
+  add-noted = subst (λ (o : Outcome). Noted (o .queue)) (sym add-done) opened-noted

@@ -54,16 +54,16 @@ whole-keeps n o g = either (eqb (o .answer) 0) _ o (moves-keeps (n + 4) o g) g
 
 -- ---- pop and peek
 
--- no call is open where none of a call's refusals applies
-no-call : (c : Open) → isOpen c ≡ false → isAdd c ≡ false
-no-call Idle e = refl
-no-call (Add h i) e = absurd (let z : _≡_ {A = ℕ} 0 1 = ap (λ b. cond b 0 1) e in omega arith)
-no-call (PopIdx t b) e = refl
-no-call (PopId t b) e = refl
-no-call (PopLen t b d) e = refl
-no-call (PopStore k i l) e = refl
-no-call PeekIdx e = refl
-no-call PeekId e = refl
+-- a call that is not open is none
+pub none-open : (c : Open) → isOpen c ≡ false → c ≡ Idle
+none-open Idle e = refl
+none-open (Add h i) e = absurd (let z : _≡_ {A = ℕ} 0 1 = ap (λ t. cond t 0 1) e in omega arith)
+none-open (PopIdx t b) e = absurd (let z : _≡_ {A = ℕ} 0 1 = ap (λ t. cond t 0 1) e in omega arith)
+none-open (PopId t b) e = absurd (let z : _≡_ {A = ℕ} 0 1 = ap (λ t. cond t 0 1) e in omega arith)
+none-open (PopLen t b d) e = absurd (let z : _≡_ {A = ℕ} 0 1 = ap (λ t. cond t 0 1) e in omega arith)
+none-open (PopStore k i l) e = absurd (let z : _≡_ {A = ℕ} 0 1 = ap (λ t. cond t 0 1) e in omega arith)
+none-open PeekIdx e = absurd (let z : _≡_ {A = ℕ} 0 1 = ap (λ t. cond t 0 1) e in omega arith)
+none-open PeekId e = absurd (let z : _≡_ {A = ℕ} 0 1 = ap (λ t. cond t 0 1) e in omega arith)
 
 opens : (q : Queue) (m : Memory) (c : Open) → Good q → isAdd c ≡ false → Named q c → Good (unless (callRefusal q m) q m (opened (withCall q c) m) .queue)
 opens q m c g a n = go (eqb (callRefusal q m) 0) refl
@@ -74,7 +74,7 @@ opens q m c g a n = go (eqb (callRefusal q m) 0) refl
     go : (b : Bool) → eqb (callRefusal q m) 0 ≡ b → Good (cond b (opened (withCall q c) m) (refused (callRefusal q m) q m) .queue)
     go true e =
         let t : NoneOf tests = first-none tests (omega arith) (eqb-true (callRefusal q m) 0 e) in
-        record { held = held-call q (g .held) c; well = call-keeps q c (g .well) (a ∙ sym (no-call (q .call) (t .1 .1 .0))) n }
+        record { held = held-call q (g .held) c; well = call-keeps q c (g .well) (a ∙ sym (ap isAdd (none-open (q .call) (t .1 .1 .0)))) n }
     go false e = g
 
 pub open-pop-keeps : (q : Queue) (m : Memory) (t : ℕ) (bs : List Buffer) → Good q → Good (openPop q m t bs .queue)

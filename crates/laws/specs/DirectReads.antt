@@ -28,11 +28,12 @@ use Rattle.rules.specs.Calls.{filled, more?, addDirect}
 use Rattle.laws.specs.FillLaws.{filled-direct, more-on, fill-links, fill-at}
 use Rattle.laws.specs.FreeLaws.{hop-low}
 use Rattle.laws.specs.AddKeeps.{Addable, direct-keeps}
+use Rattle.laws.specs.StepKeeps.{power-most}
 use Rattle.laws.specs.CallKeeps.{Good}
 use Rattle.laws.specs.Added.{stored, published}
 use Rattle.laws.specs.Stored.{puts, puts-length, puts-at, rings-desc}
 use Rattle.laws.specs.Followed.{Holds, table-reads}
-use Rattle.laws.specs.Reads.{AllNarrow, Reads, filled-on, filled-fit, next-fit, size-most, ring-reads}
+use Rattle.laws.specs.Reads.{AllNarrow, Reads, filled-on, filled-fit, next-fit, ring-reads}
 
 -- numbers along a walk that names none twice are different
 hops-apart : (next : ℕ → ℕ) (k h i j : ℕ) → i < j → j < k → count (hop next j h) (walk next k h) ≤ 1 → hop next i h ≡ hop next j h → ⊥
@@ -122,7 +123,7 @@ module _ (q : Queue) (m : Memory) (bs : List Buffer) (g : Good q) (a : Addable q
 
   -- what is stored fits its fields, and the table
   small : q .n ≤ 64
-  small = size-most (q .n) (g .well .size)
+  small = power-most (q .n) (g .well .size .0) (g .well .size .1) (g .well .size .2)
 
   next-small : (j : ℕ) → next (hop next j head) < 65536
   next-small j =

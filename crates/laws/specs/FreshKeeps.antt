@@ -1,12 +1,14 @@
--- The record that a good new makes is well formed: all its descriptors are in the free list, in rising order, and no chain is outstanding.
+-- The record that a good new makes is well formed, and as private memory can hold it: all its descriptors are in the free list, in rising order, and no
+-- chain is outstanding.
 use mathlib.Core.Path.{_≡_, refl, ap, _∙_}
 use mathlib.Core.Bool.{true, false, not, _&&_, and-false}
 use mathlib.Core.Logic.{inl}
 use mathlib.Core.List.{List, _++_, map}
-use Prim.Native.Nat.{ℕ, zero, suc, _+_, _-_, _^_, _≤_, _<_}
+use Prim.Native.Nat.{ℕ, zero, suc, _+_, _-_, _*_, _^_, _≤_, _<_}
+use native.Mathlib.Nat.{mul-le-mul-left}
 use native.Mathlib.Omega.{arith}
 use lib.Dec.{ltb, eqb}
-use lib.ListN.{getD, replicate}
+use lib.ListN.{length, length-map, length-append, length-replicate, getD, replicate}
 use Rattle.lists.specs.Tests.{by-eq}
 use Rattle.lists.specs.Pick.{rising}
 use Rattle.lists.specs.PickLaws.{getD-same, tally-nowhere, count-rising}
@@ -15,12 +17,14 @@ use Rattle.lists.specs.WalkLaws.{walk-rising}
 use Rattle.lists.specs.Once.{Once, count, below-append}
 use Rattle.lists.specs.Places.{counted}
 use Rattle.virtio.specs.declared.Desc.{Desc}
-use Rattle.virtio.specs.Desc.{noDesc}
+use Rattle.virtio.specs.Desc.{noDesc, noBuffer}
 use Rattle.virtio.specs.Layout.{needPool}
 use Rattle.rules.specs.Record.{Queue, nextOf, notedOf, outstanding, freeList}
 use Rattle.rules.specs.WellFormed.{named, outCount}
 use Rattle.rules.specs.Meaning.{WellFormed, Based, Out}
 use Rattle.rules.specs.New.{Ask, nextsFrom, linking, limit, freshQueue}
+use Rattle.laws.specs.Held.{Held}
+use Rattle.laws.specs.StepKeeps.{power-most}
 
 -- ---- the linked descriptors: each leads to the one after it, and the last to 0
 
@@ -38,6 +42,13 @@ link-last (suc zero) a ds zero e = refl
 link-last (suc zero) a ds (suc i) e = absurd (omega arith)
 link-last (suc (suc k)) a ds zero e = absurd (omega arith)
 link-last (suc (suc k)) a ds (suc i) e = link-last (suc k) (suc a) ds i (omega arith)
+
+-- there are as many as were asked for
+nexts-length : (k a : ℕ) → length (nextsFrom k a) ≡ k
+unfolding nextsFrom
+nexts-length zero a = refl
+nexts-length (suc zero) a = refl
+nexts-length (suc (suc k)) a = ap suc (nexts-length (suc k) (suc a))
 
 -- every size has a descriptor
 some-power : (k : ℕ) → 0 < 2 ^ k
@@ -89,7 +100,7 @@ module _ (a : Ask) where
         (walks-below (nextOf q) (notedOf q) (a .n) nexts-below (a .n) 0 (omega arith));
   }
 
-  -- THE LAW
+  -- THE LAWS
   pub fresh-keeps : (k : ℕ) × (k ≤ 6) × (a .n ≡ 2 ^ k) → (a .modes .indirect ≡ true → Based (a .base-pool) (needPool (a .n))) → WellFormed (freshQueue a)
   fresh-keeps s p =
       let power : a .n ≡ 2 ^ s .0 = s .2 in
@@ -109,3 +120,13 @@ module _ (a : Ask) where
         count = let z : outCount q ≡ 0 = tally-nowhere (outstanding q) none-outstanding (a .n) 0 in omega arith;
         call = tt;
       }
+
+  pub fresh-held : (k : ℕ) × (k ≤ 6) × (a .n ≡ 2 ^ k) → Held (freshQueue a)
+  fresh-held s =
+      let l : a .n ≤ 64 = power-most (a .n) (s .0) (s .1) (s .2) in
+      let e : length (q .tables .shadow) ≡ length (map linking (nextsFrom (a .n) 0)) + length (replicate (limit - a .n) noDesc) = length-append (map linking (nextsFrom (a .n) 0)) (replicate (limit - a .n) noDesc) in
+      let f : length (map linking (nextsFrom (a .n) 0)) ≡ a .n = length-map (nextsFrom (a .n) 0) linking ∙ nexts-length (a .n) 0 in
+      let n : length (q .tables .noted) ≡ 64 = length-replicate {A = ℕ} limit 0 in
+      let k : length (q .tables .kept) ≡ 64 * 64 = length-replicate (limit * limit) noBuffer in
+      let m : a .n * a .n ≤ a .n * 64 = mul-le-mul-left (a .n) l in
+      record { shadow = omega arith; noted = omega arith; kept = omega arith; avail = omega arith; last = omega arith }

@@ -1,5 +1,5 @@
 -- A record as private memory can hold it: the tables have room for n descriptors and n * n list entries, and the indices fit 16 bits. Every record of the
--- code is so; well formed or not.
+-- code that passes the check is so.
 use Prim.Native.Nat.{_*_, _≤_, _<_}
 use lib.ListN.{length}
 use Rattle.rules.specs.Record.{Queue}

@@ -4,7 +4,7 @@
 --   Placed        where a descriptor stands: in the free list, or in just one chain
 --   Held          a record as private memory can hold it
 -- What keeps it so:
---   FreshKeeps, NewKeeps   a fresh record is well formed, so what a good new makes
+--   FreshKeeps, NewKeeps   a fresh record is well formed and held, so what a good new makes
 --   FillLaws, AddKeeps   the opening of a direct add; its list is out under its head, every other chain as it was
 --   ListKeeps     the opening of an indirect add, likewise
 --   FreeLaws, PopKeeps   the freeing of a token's chain: it stands first in the free list, every other chain as it was
@@ -12,8 +12,9 @@
 --   HeldKeeps     steps and openings, as to what memory can hold
 --   CallKeeps     runs, pop and peek, opened and whole, over any memory
 --   Opening       add, opened and whole
+--   EveryKeeps    every call, in one law; and the calls of a single step leave the record as it is
 -- What the whole call add does:
---   Added         its closed form: answer, value, steps, record, memory; what it leaves of the free list and of the chains
+--   Added         its closed form: answer, value, steps, record, memory; what it, its opening and each of its steps leave of the record
 --   Stored, Followed   descriptors stored apart are read back; a table that holds a list means it to a device
 --   Reads, DirectReads, ListReads, Published   what an add publishes is read by VIRTIO's rules as the list given, direct and indirect
 -- Runs and whole calls:
@@ -47,6 +48,7 @@ pub mod StepKeeps
 pub mod HeldKeeps
 pub mod CallKeeps
 pub mod Opening
+pub mod EveryKeeps
 pub mod Added
 pub mod Stored
 pub mod Followed

@@ -27,11 +27,12 @@ use Rattle.rules.specs.Step.{storeDesc, accessed, withNext, listEntry}
 use Rattle.rules.specs.Calls.{filled, more?, headDesc, addIndirect}
 use Rattle.laws.specs.FillLaws.{more-on, no-more}
 use Rattle.laws.specs.AddKeeps.{Addable}
+use Rattle.laws.specs.StepKeeps.{power-most}
 use Rattle.laws.specs.CallKeeps.{Good}
 use Rattle.laws.specs.Added.{stored, published}
 use Rattle.laws.specs.Stored.{puts, puts-length, puts-at, rings-desc}
 use Rattle.laws.specs.Followed.{Holds, hop-up, listAt, list-reads}
-use Rattle.laws.specs.Reads.{AllNarrow, Reads, filled-fit, size-most, ring-reads}
+use Rattle.laws.specs.Reads.{AllNarrow, Reads, filled-fit, ring-reads}
 
 module _ (q : Queue) (m : Memory) (bs : List Buffer) (g : Good q) (a : Addable q bs) (i : q .modes .indirect ≡ true)
     (r : 18 * q .n + 6 ≤ length (m .one)) (v : 16 * (q .n * q .n) ≤ length (m .pool)) (f : AllNarrow bs) where
@@ -58,7 +59,7 @@ module _ (q : Queue) (m : Memory) (bs : List Buffer) (g : Good q) (a : Addable q
       omega arith
 
   small : q .n ≤ 64
-  small = size-most (q .n) (g .well .size)
+  small = power-most (q .n) (g .well .size .0) (g .well .size .1) (g .well .size .2)
 
   -- what the record holds: the head's descriptor, its chain of one, and the list
   head-desc : descOf p head ≡ headDesc q head k

@@ -1,4 +1,4 @@
--- A new that does not refuse makes a well-formed record.
+-- A new that does not refuse makes a well-formed record, such as private memory can hold.
 use mathlib.Core.Path.{_≡_, refl, sym, subst}
 use mathlib.Core.Bool.{Bool, true, false, cond, not, _&&_, _||_}
 use mathlib.Core.List.{List, [], _∷_}
@@ -17,7 +17,9 @@ use Rattle.rules.specs.Meaning.{WellFormed, Based}
 use Rattle.rules.specs.Answer.{InvalidParam, BadSize, AlreadyUsed, BadRegion}
 use Rattle.rules.specs.New.{Ask, made, notMade, new, newRefusal, regionsOk, lends, freshQueue}
 use Rattle.laws.specs.WellFormedIs.{size-means, based-means}
-use Rattle.laws.specs.FreshKeeps.{fresh-keeps}
+use Rattle.laws.specs.FreshKeeps.{fresh-keeps, fresh-held}
+use Rattle.laws.specs.Held.{Held}
+use Rattle.laws.specs.CallKeeps.{Good}
 
 module _ (a : Ask) (m : Memory) where
   abbrev refusal : ℕ
@@ -45,10 +47,20 @@ module _ (a : Ask) (m : Memory) where
       (and-right (lends (a .base-one) (needOne (a .modes .legacy) (a .n)) (length (m .one))) ((a .modes .legacy || lends (a .base-two) (needTwo false (a .n)) (length (m .two))) && (not (a .modes .indirect) || lends (a .base-pool) (needPool (a .n)) (length (m .pool)))) r) in
       based-means (a .base-pool) (needPool (a .n)) (and-right (leb (needPool (a .n)) (length (m .pool))) (baseOk (a .base-pool) (needPool (a .n))) (implied (a .modes .indirect) (lends (a .base-pool) (needPool (a .n)) (length (m .pool))) p i))
 
-  -- THE LAW
+  -- THE LAWS
   pub new-keeps : new a m .answer ≡ 0 → WellFormed (new a m .queue)
   unfolding new
   new-keeps f =
       let b = by-answer (eqb refusal 0) refl f in
       let t : NoneOf tests = first-none tests (omega arith) (b .0) in
       subst WellFormed (sym (b .1)) (fresh-keeps a (size-means (a .n) (not-false (sizeOk (a .n)) (t .0))) (pool-based (b .0)))
+
+  pub new-good : new a m .answer ≡ 0 → Good (new a m .queue)
+  unfolding new
+  new-good f =
+      let b = by-answer (eqb refusal 0) refl f in
+      let t : NoneOf tests = first-none tests (omega arith) (b .0) in
+      record {
+        held = subst Held (sym (b .1)) (fresh-held a (size-means (a .n) (not-false (sizeOk (a .n)) (t .0))));
+        well = new-keeps f;
+      }

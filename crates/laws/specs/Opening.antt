@@ -14,8 +14,6 @@ use Rattle.lists.specs.Tests.{by-test, and-left, and-right}
 use Rattle.virtio.specs.declared.Buffer.{Buffer}
 use Rattle.virtio.specs.Memory.{Memory}
 use Rattle.virtio.specs.Chain.{inOrder}
-use Rattle.rules.specs.declared.Open.{Open}
-use Rattle.rules.specs.declared.Open.the-variants.{Idle, Add, PopIdx, PopId, PopLen, PopStore, PeekIdx, PeekId}
 use Rattle.rules.specs.Record.{Queue, isOpen}
 use Rattle.rules.specs.WellFormed.{wellFormed, noEmpty}
 use Rattle.rules.specs.Meaning.{WellFormed}
@@ -24,23 +22,12 @@ use Rattle.rules.specs.Calls.{fits, badList, full, addRefusal, addDirect, addIn
 use Rattle.laws.specs.HeldKeeps.{held-add}
 use Rattle.laws.specs.AddKeeps.{Addable, direct-keeps}
 use Rattle.laws.specs.ListKeeps.{list-keeps}
-use Rattle.laws.specs.CallKeeps.{Good, whole-keeps}
+use Rattle.laws.specs.CallKeeps.{Good, none-open, whole-keeps}
 
 -- neither of two tests holds
 or-false : (a b : Bool) → (a || b) ≡ false → (a ≡ false) × (b ≡ false)
 or-false true b e = (e, absurd (let z : _≡_ {A = ℕ} 0 1 = ap (λ t. cond t 0 1) e in omega arith))
 or-false false b e = (refl, e)
-
--- a call that is not open is none
-pub none-open : (c : Open) → isOpen c ≡ false → c ≡ Idle
-none-open Idle e = refl
-none-open (Add h i) e = absurd (let z : _≡_ {A = ℕ} 0 1 = ap (λ t. cond t 0 1) e in omega arith)
-none-open (PopIdx t b) e = absurd (let z : _≡_ {A = ℕ} 0 1 = ap (λ t. cond t 0 1) e in omega arith)
-none-open (PopId t b) e = absurd (let z : _≡_ {A = ℕ} 0 1 = ap (λ t. cond t 0 1) e in omega arith)
-none-open (PopLen t b d) e = absurd (let z : _≡_ {A = ℕ} 0 1 = ap (λ t. cond t 0 1) e in omega arith)
-none-open (PopStore k i l) e = absurd (let z : _≡_ {A = ℕ} 0 1 = ap (λ t. cond t 0 1) e in omega arith)
-none-open PeekIdx e = absurd (let z : _≡_ {A = ℕ} 0 1 = ap (λ t. cond t 0 1) e in omega arith)
-none-open PeekId e = absurd (let z : _≡_ {A = ℕ} 0 1 = ap (λ t. cond t 0 1) e in omega arith)
 
 module _ (q : Queue) (m : Memory) (bs : List Buffer) where
   abbrev tests : List Test

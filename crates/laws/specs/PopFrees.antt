@@ -7,6 +7,7 @@ use Prim.Native.Nat.{ℕ, _+_}
 use native.Mathlib.Omega.{arith}
 use borrow.Author.Tests.{eqb-true}
 use lib.Dec.{ltb, eqb}
+use lib.Seq.{getD-set-other}
 use Rattle.lists.specs.Tests.{by-eq, and-right}
 use Rattle.virtio.specs.declared.Buffer.{Buffer}
 use Rattle.virtio.specs.Memory.{Memory}
@@ -25,12 +26,13 @@ use Rattle.laws.specs.StepsLeft.{passed}
 use Rattle.laws.specs.Whole.{pop-refused}
 use Rattle.laws.specs.Popped.{usedIdx, usedId, popVerdict, pop-not-ready, pop-fails, pop-passes, not-adding}
 
--- r is q with the chain of token t freed: it was outstanding and stands first in the free list, the token heads none, and every other chain, list and noted
--- length is as it was
+-- r is q with the chain of token t freed: it was outstanding and stands first in the free list, the token heads none, every other number's noted length is as
+-- it was, and so are every other chain and list
 pub record Freed (q r : Queue) (t : ℕ) : Type 0 where
   pub out : Out q t
   pub free : freeList r ≡ chainOf q t ++ freeList q
   pub token : notedOf r t ≡ 0
+  pub noted : (h : ℕ) → (h ≡ t → ⊥) → notedOf r h ≡ notedOf q h
   pub others : (h : ℕ) → Out q h → (h ≡ t → ⊥) → (chainOf r h ≡ chainOf q h) × (buffersOf r h ≡ buffersOf q h) × (notedOf r h ≡ notedOf q h)
 
 is-freed : (q : Queue) → Good q → isAdd (q .call) ≡ false → (t : ℕ) → Out q t → (c : Open) → Freed q (withCall (freed q t) c) t
@@ -38,6 +40,7 @@ is-freed q g a t o c = record {
   out = o;
   free = freed-free q t (g .held) (g .well) o a;
   token = freed-token q t (g .held) (g .well) o a;
+  noted = λ h d. getD-set-other (q .tables .noted) t h 0 0 d;
   others = freed-others q t (g .held) (g .well) o a;
 }
 
@@ -49,11 +52,12 @@ pub record Refuses (q : Queue) (m : Memory) (o : Outcome) : Type 0 where
   pub queue : o .queue ≡ q
   pub memory : o .memory ≡ m
 
--- it frees the chain of its token, which was added with the list that it was given
+-- it frees the chain of its token, which was added with the list that it was given, and leaves no other record than that
 pub record Frees (q : Queue) (t : ℕ) (bs : List Buffer) (o : Outcome) : Type 0 where
   pub answer : o .answer ≡ 0
   pub list : sameList (buffersOf q t) bs ≡ true
   pub chain : Freed q (o .queue) t
+  pub left : o .queue ≡ withCall (freed q t) Idle
 
 -- THE LAW of pop
 pub pop-frees-or-nothing : (q : Queue) (m : Memory) (t : ℕ) (bs : List Buffer) → Good q → Refuses q m (popUsed q m t bs) ⊎ Frees q t bs (popUsed q m t bs)
@@ -76,6 +80,7 @@ pop-frees-or-nothing q m t bs g =
           answer = refl;
           list = and-right (outstanding q t) (sameList (buffersOf q t) bs) (p .2);
           chain = is-freed q g (not-adding q m e) t (out-means q t (p .1)) Idle;
+          left = refl;
         }
 
 -- ---- its steps
@@ -87,6 +92,7 @@ pub record Third (q r : Queue) : Type 0 where
   pub call : q .call ≡ PopLen token true id
   pub same : tokenOf id ≡ token
   pub frees : Freed q r token
+  pub left : r ≡ withCall (freed q token) (r .call)
 
 -- r is q but for the open call; or q's step was such a load
 abbrev pub KeptOrFreed : Queue → Queue → Type 0
@@ -106,6 +112,7 @@ module _ (q : Queue) (g : Good q) where
         call = e ∙ ap (λ x. PopLen t x d) (p .2);
         same = p .0;
         frees = is-freed q g (ap isAdd e) t (out-means q t (p .1)) c;
+        left = refl;
       }
 
   at-third : (t : ℕ) (b : Bool) (d v : ℕ) → q .call ≡ PopLen t b d → KeptOrFreed q (react q (PopLen t b d) v .queue)

@@ -18,8 +18,7 @@ use Rattle.rules.specs.WellFormed.{storeSteps}
 use Rattle.rules.specs.Answer.{Outcome, NotReady}
 use Rattle.rules.specs.Step.{accessed, popAccess, tokenOf, freed, storedCount, verdict, move}
 use Rattle.rules.specs.Calls.{callRefusal, matches, moves, popUsed, peekUsed}
-use Rattle.laws.specs.CallKeeps.{Good}
-use Rattle.laws.specs.Opening.{none-open}
+use Rattle.laws.specs.CallKeeps.{Good, none-open}
 use Rattle.laws.specs.Runs.{onward, moves-closed, moves-open}
 use Rattle.laws.specs.StepsLeft.{storesDue, due-most, passed}
 use Rattle.laws.specs.Whole.{call-allowed, pop-is, peek-is}

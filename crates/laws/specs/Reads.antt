@@ -4,7 +4,7 @@ use mathlib.Core.Bool.{Bool, true, false}
 use mathlib.Core.List.{List}
 use Prim.Native.Nat.{ℕ, _+_, _*_, _/_, _%_, _^_, _≤_, _<_}
 use native.Mathlib.Omega.{arith}
-use native.Mathlib.Nat.{mod-lt, pow-le-pow-right}
+use native.Mathlib.Nat.{mod-lt}
 use lib.ListN.{length, getD}
 use Rattle.lists.specs.Index.{after}
 use Rattle.lists.specs.Bytes.{getLE}
@@ -58,10 +58,6 @@ next-fit b t x f l =
     record { addr = f .addr; len = f .len; flags = (let s : flagsOf t (b .output) false ≤ 3 = flags-small t (b .output) in omega arith); next = omega arith }
 
 -- ---- the ring
-
--- a power of two that is allowed is small
-pub size-most : (n : ℕ) → (k : ℕ) × (k ≤ 6) × (n ≡ 2 ^ k) → n ≤ 64
-size-most n s = rw (s .2) (pow-le-pow-right (omega arith) (s .1))
 
 -- idx and the slot, where they were stored last in region one
 pub ring-reads : (legacy : Bool) (n base : ℕ) (m : Memory) (s : List ℕ) (index head : ℕ) (bs : List Buffer) → m .one ≡ rings n s (index % n) head (after index)

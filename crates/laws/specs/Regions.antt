@@ -6,22 +6,21 @@ use Prim.Native.Nat.{ℕ, zero, suc, _+_}
 use lib.Dec.{ltb, leb, eqb}
 use lib.ListN.{length}
 use Rattle.lists.specs.Tests.{by-test}
-use Rattle.lists.specs.Bytes.{put-length}
 use Rattle.lists.specs.Pick.{_when_, first}
 use Rattle.virtio.specs.declared.Buffer.{Buffer}
-use Rattle.virtio.specs.Desc.{put-desc-length}
 use Rattle.virtio.specs.Layout.{needOne, needTwo, needPool}
-use Rattle.virtio.specs.Memory.{Memory, Region, in-one, in-two, in-pool, bytesOf, withBytes, spot}
+use Rattle.virtio.specs.Memory.{Memory}
 use Rattle.rules.specs.declared.Modes.{Modes}
 use Rattle.rules.specs.declared.Open.{Open}
 use Rattle.rules.specs.declared.Open.the-variants.{Idle, Add, PopIdx, PopId, PopLen, PopStore, PeekIdx, PeekId}
 use Rattle.rules.specs.Record.{Queue, isOpen}
 use Rattle.rules.specs.WellFormed.{addSteps, storeSteps}
 use Rattle.rules.specs.Answer.{Outcome, BadRecord, BadRegion}
-use Rattle.rules.specs.Step.{Access, nothing, load, store, storeDesc, access, accessed, loaded, Reaction, verdict, storedCount, react, move}
+use Rattle.rules.specs.Step.{access, loaded, Reaction, verdict, storedCount, react, move}
 use Rattle.rules.specs.Calls.{fits, stepRefusal, addOpened, addDirect, addIndirect, moves}
 use Rattle.laws.specs.WellFormedIs.{means-well-formed}
 use Rattle.laws.specs.CallKeeps.{Good}
+use Rattle.laws.specs.Changes.{SameLengths, access-lengths}
 use Rattle.laws.specs.Runs.{onward, moves-closed, moves-open}
 
 -- p has the layout of q
@@ -29,18 +28,12 @@ pub record Shaped (p q : Queue) : Type 0 where
   pub n : p .n ≡ q .n
   pub modes : p .modes ≡ q .modes
 
--- x is as long as m
-pub record Long (x m : Memory) : Type 0 where
-  pub one : length (x .one) ≡ length (m .one)
-  pub two : length (x .two) ≡ length (m .two)
-  pub pool : length (x .pool) ≡ length (m .pool)
-
 -- what fits depends on no more
 abbrev fitsOf : Modes → ℕ → ℕ → ℕ → ℕ → Bool
 fitsOf o n one two pool =
     leb (needOne (o .legacy) n) one && (leb (needTwo (o .legacy) n) two && (not (o .indirect) || leb (needPool n) pool))
 
-pub still-fits : (p q : Queue) (x m : Memory) → Shaped p q → Long x m → fits p x ≡ fits q m
+pub still-fits : (p q : Queue) (x m : Memory) → Shaped p q → SameLengths x m → fits p x ≡ fits q m
 still-fits p q x m s l =
     ap (λ k. fitsOf (p .modes) k (length (x .one)) (length (x .two)) (length (x .pool))) (s .n)
     ∙ ap (λ o. fitsOf o (q .n) (length (x .one)) (length (x .two)) (length (x .pool))) (s .modes)
@@ -49,24 +42,6 @@ still-fits p q x m s l =
     ∙ ap (λ k. fitsOf (q .modes) (q .n) (length (m .one)) (length (m .two)) k) (l .pool)
 
 -- ---- a step
-
-long-same : (m : Memory) → Long m m
-long-same m = record { one = refl; two = refl; pool = refl }
-
-stored : (r : Region) (m : Memory) (s : List ℕ) → length s ≡ length (bytesOf r m) → Long (withBytes r m s) m
-stored in-one m s e = record { one = e; two = refl; pool = refl }
-stored in-two m s e = record { one = refl; two = e; pool = refl }
-stored in-pool m s e = record { one = refl; two = refl; pool = e }
-
-pub accessed-long : (q : Queue) (a : Access) (m : Memory) → Long (accessed q a m) m
-accessed-long q nothing m = long-same m
-accessed-long q (load p) m = long-same m
-accessed-long q (store p v) m =
-    let r : Region = spot (q .modes .legacy) (q .n) p .region in
-    stored r m _ (put-length (spot (q .modes .legacy) (q .n) p .width) (bytesOf r m) (spot (q .modes .legacy) (q .n) p .offset) v)
-accessed-long q (storeDesc p d) m =
-    let r : Region = spot (q .modes .legacy) (q .n) p .region in
-    stored r m _ (put-desc-length (bytesOf r m) (spot (q .modes .legacy) (q .n) p .offset) d)
 
 module _ (q : Queue) where
   either : (b : Bool) (x y : Reaction) → Shaped (x .queue) q → Shaped (y .queue) q → Shaped (cond b x y .queue) q
@@ -93,7 +68,7 @@ module _ (q : Queue) where
 move-fits : (q : Queue) (m : Memory) → fits (move q m .queue) (move q m .memory) ≡ fits q m
 unfolding move
 move-fits q m =
-    still-fits _ q _ m (react-shaped q (q .call) (loaded q (access q (q .call)) m)) (accessed-long q (access q (q .call)) m)
+    still-fits _ q _ m (react-shaped q (q .call) (loaded q (access q (q .call)) m)) (access-lengths q m (access q (q .call)))
 
 -- ---- THE LAW of runs
 
