@@ -1,17 +1,15 @@
 -- The whole call add in closed form: its answer, value and steps, the record and the memory that it leaves; and, of it and of its opening, where its descriptors
 -- came from, its list, the chains of others and all other noted lengths.
 use mathlib.Core.Path.{_≡_, refl, sym, ap, ap₂, _∙_, subst}
-use mathlib.Core.Bool.{Bool, true, false, cond, _&&_}
-use mathlib.Core.Logic.{_⊎_, inl, inr}
+use mathlib.Core.Bool.{Bool, true, false, cond}
 use mathlib.Core.List.{List, _++_, map}
 use Prim.Native.Nat.{ℕ, zero, suc, _+_, _-_, _*_, _%_, _≤_, _<_}
 use native.Mathlib.Omega.{arith}
-use borrow.Author.Tests.{lt-ltb, le-ltb, eq-eqb, ne-eqb, ltb-true, ltb-false}
+use borrow.Author.Tests.{lt-ltb, le-ltb, eq-eqb, ne-eqb}
 use lib.Dec.{ltb}
 use lib.ListN.{length, length-map}
 use lib.Seq.{getD-set-same, getD-set-other}
 use Rattle.lists.specs.Index.{after}
-use Rattle.lists.specs.Tests.{by-test, and-left, and-right}
 use Rattle.lists.specs.Pick.{rising, run-of}
 use Rattle.lists.specs.PickLaws.{length-rising}
 use Rattle.lists.specs.Walk.{walk, walk-length}
@@ -24,11 +22,11 @@ use Rattle.rules.specs.WellFormed.{stepsOfAdd, addSteps}
 use Rattle.rules.specs.Meaning.{Out}
 use Rattle.rules.specs.Answer.{Outcome, refused}
 use Rattle.rules.specs.Step.{Access, store, storeDesc, accessed, bufferStore, addAccess, Reaction, goesOn, ends, react, move}
-use Rattle.rules.specs.Calls.{addRefusal, addDirect, addIndirect, addOpened, opened, openAdd, andThen, moves, whole, add}
+use Rattle.rules.specs.Calls.{addRefusal, addIndirect, addOpened, opened, openAdd, andThen, moves, whole, add}
 use Rattle.laws.specs.AddKeeps.{Addable, direct-takes, direct-adds, direct-others}
 use Rattle.laws.specs.ListKeeps.{list-takes, list-adds, list-others}
 use Rattle.laws.specs.CallKeeps.{Good}
-use Rattle.laws.specs.Opening.{addable}
+use Rattle.laws.specs.Opening.{addable, by-opening}
 
 -- ---- the memory that an add leaves
 
@@ -151,24 +149,6 @@ size-length p h = go (isIndirect p h)
         ≡ cond b (entriesOf p h) (notedOf p h)
     go true = length-map (rising (entriesOf p h) (p .n * h)) _ ∙ length-rising (entriesOf p h) (p .n * h)
     go false = length-map (chainOf p h) _ ∙ walk-length (nextOf p) (notedOf p h) h
-
-module _ (q : Queue) (bs : List Buffer) (a : Addable q bs) where
-  -- what holds of the indirect opening and of the direct one holds of the opening
-  pub by-opening : (P : Queue → Type 0) → (q .modes .indirect ≡ true → 1 < length bs → P (addIndirect q bs))
-      → ((q .modes .indirect ≡ false) ⊎ (length bs ≡ 1) → P (addDirect q bs)) → P (addOpened q bs)
-  by-opening P f g = go (q .modes .indirect && ltb 1 (length bs)) refl
-    where
-      go : (b : Bool) → (q .modes .indirect && ltb 1 (length bs)) ≡ b → P (cond b (addIndirect q bs) (addDirect q bs))
-      go true e =
-          f (and-left (q .modes .indirect) (ltb 1 (length bs)) e) (ltb-true 1 (length bs) (and-right (q .modes .indirect) (ltb 1 (length bs)) e))
-      go false e = g (by-test (q .modes .indirect) (λ i. inr (one i)) (λ i. inl i))
-        where
-          one : q .modes .indirect ≡ true → length bs ≡ 1
-          one i =
-              let s : ltb 1 (length bs) ≡ false = rw i at e in
-              let l : length bs ≤ 1 = ltb-false 1 (length bs) s in
-              let p : 0 < length bs = a .some in
-              omega arith
 
 module _ (q : Queue) (m : Memory) (bs : List Buffer) (g : Good q) (e : addRefusal q m bs ≡ 0) where
   -- where nothing refuses the add; the record opened, and its head

@@ -2,21 +2,21 @@
 -- places that this kind of call loads.
 use mathlib.Core.Path.{_≡_, refl, sym, ap, subst}
 use mathlib.Core.Bool.{Bool, true, false, not, cond, _&&_}
-use mathlib.Core.List.{List, [], _∷_}
+use mathlib.Core.List.{List}
 use Prim.Native.Nat.{ℕ, zero, suc, _+_}
 use lib.Dec.{ltb, eqb}
 use lib.ListN.{length}
-use Rattle.lists.specs.Pick.{_when_, first, one-if}
+use Rattle.lists.specs.Pick.{first, one-if}
 use Rattle.virtio.specs.declared.Buffer.{Buffer}
 use Rattle.virtio.specs.Memory.{Memory, Place, used-flags, used-idx, avail-event, spot, loadAt}
 use Rattle.virtio.specs.Notify.{byFlags}
 use Rattle.rules.specs.declared.Open.{Open}
 use Rattle.rules.specs.declared.Open.the-variants.{Idle, Add, PopIdx, PopId, PopLen, PopStore, PeekIdx, PeekId}
 use Rattle.rules.specs.Record.{Queue, isOpen, withCall}
-use Rattle.rules.specs.WellFormed.{wellFormed, noEmpty, addSteps, storeSteps}
-use Rattle.rules.specs.Answer.{Outcome, refused, unless, InvalidParam, QueueFull, EmptyBuffer, Busy, BadRecord, BadRegion}
+use Rattle.rules.specs.WellFormed.{addSteps, storeSteps}
+use Rattle.rules.specs.Answer.{Outcome, refused, unless}
 use Rattle.rules.specs.Step.{loaded, accessed, access, Reaction, storedCount, verdict, react, move}
-use Rattle.rules.specs.Calls.{fits, badList, full, addRefusal, callRefusal, stepRefusal, countRefusal, addOpened, addIndirect, addDirect, opened, matches, openAdd, openPop, openPeek, andThen, moves, run, step, whole, add, popUsed, peekUsed, canPop, notifyByEvent, shouldNotify, setDevNotify, availableDesc}
+use Rattle.rules.specs.Calls.{fits, stepTests, callTests, addTests, addRefusal, callRefusal, stepRefusal, countRefusal, addOpened, addIndirect, addDirect, opened, matches, openAdd, openPop, openPeek, andThen, moves, run, step, whole, add, popUsed, peekUsed, canPop, notifyByEvent, shouldNotify, setDevNotify, availableDesc}
 use Rattle.laws.specs.Depends.{told, loadedNow, SameAt, loads-none, idNow, lenNow, loads-when, stepped-alike, told-if}
 
 -- ---- runs with nothing in between
@@ -88,23 +88,13 @@ moves-alike (suc b) o o′ e s =
 -- refusals: shared memory counts for them only as to whether it is large enough
 module _ (q : Queue) (m m′ : Memory) (f : fits q m ≡ fits q m′) where
   add-refusal : (bs : List Buffer) → addRefusal q m bs ≡ addRefusal q m′ bs
-  add-refusal bs = ap (λ b. first (
-      (BadRecord when not (wellFormed q))
-      ∷ (BadRegion when not b)
-      ∷ (Busy when isOpen (q .call))
-      ∷ (InvalidParam when badList bs)
-      ∷ (QueueFull when full q (length bs))
-      ∷ (EmptyBuffer when not (noEmpty bs))
-      ∷ []
-      )) f
+  add-refusal bs = ap (λ b. first (addTests q b bs)) f
 
   call-refusal : callRefusal q m ≡ callRefusal q m′
-  call-refusal = ap (λ b. first (
-      (BadRecord when not (wellFormed q)) ∷ (BadRegion when not b) ∷ (Busy when isOpen (q .call)) ∷ []
-      )) f
+  call-refusal = ap (λ b. first (callTests q b)) f
 
   step-refusal : stepRefusal q m ≡ stepRefusal q m′
-  step-refusal = ap (λ b. first ((BadRecord when not (wellFormed q)) ∷ (BadRegion when not b) ∷ [])) f
+  step-refusal = ap (λ b. first (stepTests q b)) f
 
 -- as it is where the lengths are the same
 pub fits-alike : (q : Queue) (m m′ : Memory) → length (m .one) ≡ length (m′ .one) → length (m .two) ≡ length (m′ .two) → length (m .pool) ≡ length (m′ .pool) → fits q m ≡ fits q m′

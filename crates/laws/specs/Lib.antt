@@ -10,6 +10,7 @@
 --   FreeLaws, PopKeeps   the freeing of a token's chain: it stands first in the free list, every other chain as it was
 --   StepKeeps     a step, whatever number it loads
 --   HeldKeeps     steps and openings, as to what memory can hold
+--   Allowed       what is so of a call that nothing refuses
 --   CallKeeps     runs, pop and peek, opened and whole, over any memory
 --   Opening       add, opened and whole
 --   EveryKeeps    every call, in one law; and the calls of a single step leave the record as it is
@@ -46,6 +47,7 @@ pub mod FreeLaws
 pub mod PopKeeps
 pub mod StepKeeps
 pub mod HeldKeeps
+pub mod Allowed
 pub mod CallKeeps
 pub mod Opening
 pub mod EveryKeeps

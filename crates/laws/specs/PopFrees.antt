@@ -18,12 +18,12 @@ use Rattle.rules.specs.WellFormed.{storeSteps}
 use Rattle.rules.specs.Meaning.{Out}
 use Rattle.rules.specs.Answer.{Outcome}
 use Rattle.rules.specs.Step.{Reaction, ends, tokenOf, freed, verdict, storedCount, popped, react}
-use Rattle.rules.specs.Calls.{sameList, callRefusal, matches, popUsed}
+use Rattle.rules.specs.Calls.{sameList, callRefusal, matches, opened, openPop, popUsed}
 use Rattle.laws.specs.WellFormedIs.{out-means}
 use Rattle.laws.specs.PopKeeps.{freed-free, freed-others, freed-token}
 use Rattle.laws.specs.CallKeeps.{Good}
 use Rattle.laws.specs.StepsLeft.{passed}
-use Rattle.laws.specs.Whole.{pop-refused}
+use Rattle.laws.specs.Whole.{pop-refused, pop-opens}
 use Rattle.laws.specs.Popped.{usedIdx, usedId, popVerdict, pop-not-ready, pop-fails, pop-passes, not-adding}
 
 -- r is q with the chain of token t freed: it was outstanding and stands first in the free list, the token heads none, every other number's noted length is as
@@ -137,3 +137,50 @@ module _ (q : Queue) (g : Good q) where
 -- THE LAW of a step of any call but an add, whatever number it loads
 pub step-frees-or-nothing : (q : Queue) → Good q → isAdd (q .call) ≡ false → (v : ℕ) → KeptOrFreed q (react q (q .call) v .queue)
 step-frees-or-nothing q g a v = reacts q g (q .call) refl a v
+
+-- ---- a pop that was opened with a list, and its loads one at a time
+
+-- its open call up to the third load: the token, and whether the list was the one added
+pub data Loading (q : Queue) (t : ℕ) (bs : List Buffer) : Open → Type 0 where
+  before-idx : Loading q t bs (PopIdx t (matches q t bs))
+  before-id : Loading q t bs (PopId t (matches q t bs))
+  before-len : (id : ℕ) → Loading q t bs (PopLen t (matches q t bs) id)
+
+-- what a load leads to: the next load, or the end with nothing altered; or, where the list was the one added, the chain freed
+pub record Unmoved (q r : Queue) (t : ℕ) (bs : List Buffer) : Type 0 where
+  pub record-stays : r ≡ withCall q (r .call)
+  pub goes-on : (r .call ≡ Idle) ⊎ Loading q t bs (r .call)
+
+pub record FreesListed (q r : Queue) (t : ℕ) (bs : List Buffer) : Type 0 where
+  pub list : sameList (buffersOf q t) bs ≡ true
+  pub left : r ≡ withCall (freed q t) (r .call)
+
+abbrev pub ByList : Queue → ℕ → List Buffer → Queue → Type 0
+ByList q t bs r = Unmoved q r t bs ⊎ FreesListed q r t bs
+
+module _ (q : Queue) (t : ℕ) (bs : List Buffer) where
+  one-of : (b : Bool) (x y : Reaction) → ByList q t bs (x .queue) → ByList q t bs (y .queue) → ByList q t bs (cond b x y .queue)
+  one-of true x y h k = h
+  one-of false x y h k = k
+
+  closed-by : (z : Bool) (d v : ℕ) → eqb (verdict q t (matches q t bs) d) 0 ≡ z
+      → ByList q t bs (cond z (popped q t v) (ends q (verdict q t (matches q t bs) d) 0) .queue)
+  closed-by true d v f =
+      let p = passed q t (matches q t bs) d (eqb-true (verdict q t (matches q t bs) d) 0 f) in
+      let l : sameList (buffersOf q t) bs ≡ true = and-right (outstanding q t) (sameList (buffersOf q t) bs) (p .2) in
+      one-of (eqb (storeSteps q (storedCount q t)) 0) _ _ (inr (record { list = l; left = refl })) (inr (record { list = l; left = refl }))
+  closed-by false d v f = inl (record { record-stays = refl; goes-on = inl refl })
+
+  -- THE LAW: whatever numbers its three loads give, a pop frees the chain of its token only where the list that it was opened with is the one added
+  pub loads-by-list : (c : Open) → Loading q t bs c → (v : ℕ) → ByList q t bs (react (withCall q c) c v .queue)
+  loads-by-list _ before-idx v =
+      one-of (eqb v (q .counts .last)) _ _ (inl (record { record-stays = refl; goes-on = inl refl })) (inl (record { record-stays = refl; goes-on = inr before-id }))
+  loads-by-list _ before-id v = inl (record { record-stays = refl; goes-on = inr (before-len v) })
+  loads-by-list _ (before-len d) v = closed-by (eqb (verdict q t (matches q t bs) d) 0) d v refl
+
+-- and so it starts
+pub opened-loading : (q : Queue) (m : Memory) (t : ℕ) (bs : List Buffer) → callRefusal q m ≡ 0
+    → (openPop q m t bs .queue ≡ withCall q (openPop q m t bs .queue .call)) × Loading q t bs (openPop q m t bs .queue .call)
+opened-loading q m t bs e =
+    let o : openPop q m t bs ≡ opened (withCall q (PopIdx t (matches q t bs))) m = pop-opens q m t bs e in
+    subst (λ x. (x .queue ≡ withCall q (x .queue .call)) × Loading q t bs (x .queue .call)) (sym o) (refl, before-idx)

@@ -17,11 +17,12 @@ use Rattle.rules.specs.Record.{Queue, descOf, nextOf, isAdd, withCall}
 use Rattle.rules.specs.WellFormed.{storeSteps}
 use Rattle.rules.specs.Answer.{Outcome, NotReady}
 use Rattle.rules.specs.Step.{accessed, popAccess, tokenOf, freed, storedCount, verdict, move}
-use Rattle.rules.specs.Calls.{callRefusal, matches, moves, popUsed, peekUsed}
+use Rattle.rules.specs.Calls.{fits, callRefusal, matches, moves, popUsed, peekUsed}
 use Rattle.laws.specs.CallKeeps.{Good, none-open}
 use Rattle.laws.specs.Runs.{onward, moves-closed, moves-open}
 use Rattle.laws.specs.StepsLeft.{storesDue, due-most, passed}
-use Rattle.laws.specs.Whole.{call-allowed, pop-is, peek-is}
+use Rattle.laws.specs.Allowed.{call-allowed}
+use Rattle.laws.specs.Whole.{pop-is, peek-is}
 
 -- ---- the stores of a pop, over the record p in which its chain is free
 
@@ -107,7 +108,7 @@ module _ (p : Queue) (k v : ℕ) (m : Memory) where
 module _ (q : Queue) (m : Memory) where
   -- no call is open where none of a call's refusals applies
   is-idle : callRefusal q m ≡ 0 → Idle ≡ q .call
-  is-idle e = sym (none-open (q .call) (call-allowed q m e .1))
+  is-idle e = sym (none-open (q .call) (call-allowed q (fits q m) e .idle))
 
   pub not-adding : callRefusal q m ≡ 0 → isAdd (q .call) ≡ false
   not-adding e = ap isAdd (sym (is-idle e))

@@ -18,8 +18,8 @@ use Rattle.rules.specs.Calls.{fits, addRefusal, add}
 use Rattle.laws.specs.WellFormedIs.{means-well-formed}
 use Rattle.laws.specs.AddKeeps.{Addable}
 use Rattle.laws.specs.CallKeeps.{Good}
-use Rattle.laws.specs.Opening.{addable}
-use Rattle.laws.specs.Added.{published, by-opening, add-done}
+use Rattle.laws.specs.Opening.{by-opening, addable}
+use Rattle.laws.specs.Added.{published, add-done}
 use Rattle.laws.specs.Reads.{AllNarrow, Reads}
 use Rattle.laws.specs.DirectReads.{direct-publishes}
 use Rattle.laws.specs.ListReads.{list-publishes}

@@ -150,24 +150,24 @@ module _ (m : Memory) where
 
 -- THE LAWS: a call that says no
 module _ (q : Queue) (m : Memory) where
-  pub add-refused : (bs : List Buffer) → (add q m bs .answer ≡ 0 → ⊥) → add q m bs .memory ≡ m
+  pub add-refused-still : (bs : List Buffer) → (add q m bs .answer ≡ 0 → ⊥) → add q m bs .memory ≡ m
   unfolding openAdd
-  add-refused bs =
+  add-refused-still bs =
       whole-holds (IfNo m) (q .n) (addRefusal q m bs) q (addOpened q bs) m (λ n. refl) (λ z. moves-no m (q .n + 4) (addOpened q bs))
 
-  pub pop-refused : (t : ℕ) (bs : List Buffer) → (popUsed q m t bs .answer ≡ 0 → ⊥) → popUsed q m t bs .memory ≡ m
+  pub pop-refused-still : (t : ℕ) (bs : List Buffer) → (popUsed q m t bs .answer ≡ 0 → ⊥) → popUsed q m t bs .memory ≡ m
   unfolding openPop
-  pop-refused t bs =
+  pop-refused-still t bs =
       whole-holds (IfNo m) (q .n) (callRefusal q m) q (withCall q (PopIdx t (matches q t bs))) m (λ n. refl)
       (λ z. moves-no m (q .n + 4) (withCall q (PopIdx t (matches q t bs))))
 
-  pub run-refused : (b : ℕ) → (run b q m .answer ≡ 0 → ⊥) → run b q m .memory ≡ m
+  pub run-refused-still : (b : ℕ) → (run b q m .answer ≡ 0 → ⊥) → run b q m .memory ≡ m
   unfolding run
-  run-refused b = unless-holds (IfNo m) (stepRefusal q m) q m (moves b (opened q m)) (λ n. refl) (λ z. moves-no m b q)
+  run-refused-still b = unless-holds (IfNo m) (stepRefusal q m) q m (moves b (opened q m)) (λ n. refl) (λ z. moves-no m b q)
 
-  pub notify-refused : (b : Bool) → (setDevNotify q m b .answer ≡ 0 → ⊥) → setDevNotify q m b .memory ≡ m
+  pub notify-refused-still : (b : Bool) → (setDevNotify q m b .answer ≡ 0 → ⊥) → setDevNotify q m b .memory ≡ m
   unfolding setDevNotify
-  notify-refused b = unless-holds (IfNo m) (callRefusal q m) q m _ (λ n. refl) (λ z. go (q .modes .«event_idx»))
+  notify-refused-still b = unless-holds (IfNo m) (callRefusal q m) q m _ (λ n. refl) (λ z. go (q .modes .«event_idx»))
     where
       go : (e : Bool) → IfNo m (cond e (answered 0 0 q m) (answered 1 0 q (storeAt (spot (q .modes .legacy) (q .n) avail-flags) (cond b 0 1) m)))
       go true n = refl

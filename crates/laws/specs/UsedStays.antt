@@ -20,13 +20,13 @@ use Rattle.virtio.specs.Sizes.{Has, front-fields, legacy-apart}
 use Rattle.rules.specs.declared.Open.{Open}
 use Rattle.rules.specs.declared.Open.the-variants.{Idle, Add, PopIdx, PopId, PopLen, PopStore, PeekIdx, PeekId}
 use Rattle.rules.specs.Record.{Queue, nextOf, notedOf, chainOf, isIndirect, entriesOf, withCall}
-use Rattle.rules.specs.WellFormed.{addSteps, storeSteps}
 use Rattle.rules.specs.Meaning.{WellFormed, Out, Named, Adding}
 use Rattle.rules.specs.Answer.{Outcome, refused}
-use Rattle.rules.specs.Step.{Access, nothing, load, store, storeDesc, accessed, loaded, access, Reaction, storedCount, verdict, react, move}
+use Rattle.rules.specs.Step.{Access, nothing, load, store, storeDesc, accessed, loaded, access, move}
 use Rattle.rules.specs.Calls.{addRefusal, callRefusal, stepRefusal, addDirect, addIndirect, addOpened, opened, matches, openAdd, openPop, andThen, moves, run, add, popUsed, answered, setDevNotify}
 use Rattle.laws.specs.CallKeeps.{Good, move-keeps, open-pop-keeps}
 use Rattle.laws.specs.Opening.{open-add-keeps}
+use Rattle.laws.specs.Regions.{react-shaped}
 use Rattle.laws.specs.Writers.{Keeps, keeps-to-side}
 use Rattle.laws.specs.Changes.{Lies, Among, Clear, SameByte, SameLengths, publishing, eventPlaces, addingPlaces, storingPlaces, access-changes, access-wide, step-stores}
 use Rattle.laws.specs.CallChanges.{moves-hold, unless-holds, whole-holds}
@@ -167,22 +167,6 @@ module _ (q : Queue) (r : Region) (i : ℕ) (b : Behind (q .n) r i) where
 
 -- ---- runs and calls
 
--- a step keeps the size
-either : (n : ℕ) (b : Bool) (x y : Reaction) → x .queue .n ≡ n → y .queue .n ≡ n → cond b x y .queue .n ≡ n
-either n true x y e f = e
-either n false x y e f = f
-
-size-stays : (q : Queue) (c : Open) (v : ℕ) → react q c v .queue .n ≡ q .n
-size-stays q Idle v = refl
-size-stays q (Add h i) v = either (q .n) (ltb (i + 1) (addSteps q h)) _ _ refl refl
-size-stays q (PopIdx t b) v = either (q .n) (eqb v (q .counts .last)) _ _ refl refl
-size-stays q (PopId t b) v = refl
-size-stays q (PopLen t b d) v =
-    either (q .n) (eqb (verdict q t b d) 0) _ _ (either (q .n) (eqb (storeSteps q (storedCount q t)) 0) _ _ refl refl) refl
-size-stays q (PopStore k i l) v = either (q .n) (ltb (i + 1) (storeSteps q k)) _ _ refl refl
-size-stays q PeekIdx v = either (q .n) (eqb v (q .counts .last)) _ _ refl refl
-size-stays q PeekId v = refl
-
 -- so a run leaves it
 module _ (n : ℕ) (r : Region) (i : ℕ) (b : Behind n r i) (m : Memory) where
   record Left (o : Outcome) : Type 0 where
@@ -196,7 +180,7 @@ module _ (n : ℕ) (r : Region) (i : ℕ) (b : Behind n r i) (m : Memory) where
       let q : Queue = o .queue in
       record {
         good = move-keeps q (o .memory) (l .good);
-        size = size-stays q (q .call) (loaded q (access q (q .call)) (o .memory)) ∙ l .size;
+        size = react-shaped q (q .call) (loaded q (access q (q .call)) (o .memory)) .n ∙ l .size;
         byte =
             step-behind q r i (subst (λ k. Behind k r i) (sym (l .size)) b) (l .good .well) (o .memory) (q .call) refl ∙ l .byte;
       }

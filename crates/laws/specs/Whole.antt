@@ -1,24 +1,22 @@
 -- Whole calls: add, pop and peek leave no call open, and each is its opening and its steps, however these are shared out among runs.
 use mathlib.Core.Path.{_≡_, refl, sym, ap, subst, _∙_}
-use mathlib.Core.Bool.{Bool, true, false, not, cond, false≢true}
+use mathlib.Core.Bool.{Bool, true, false, cond, false≢true}
 use mathlib.Core.List.{List, [], _∷_}
 use Prim.Native.Nat.{ℕ, zero, suc, _+_, _-_, _≤_}
 use native.Mathlib.Omega.{arith}
-use borrow.Author.Tests.{ne-eqb, not-false}
+use borrow.Author.Tests.{ne-eqb}
 use lib.Dec.{ltb, eqb}
-use lib.ListN.{length}
 use Rattle.lists.specs.Tests.{by-test}
-use Rattle.lists.specs.Pick.{Test, _when_}
-use Rattle.lists.specs.PickLaws.{first-none, NoneOf}
 use Rattle.virtio.specs.declared.Buffer.{Buffer}
 use Rattle.virtio.specs.Memory.{Memory}
 use Rattle.rules.specs.declared.Open.{Open}
 use Rattle.rules.specs.declared.Open.the-variants.{Idle, Add, PopIdx, PopId, PopLen, PopStore, PeekIdx, PeekId}
 use Rattle.rules.specs.Record.{Queue, isOpen, withCall}
-use Rattle.rules.specs.WellFormed.{wellFormed, noEmpty, addSteps, storeSteps}
-use Rattle.rules.specs.Answer.{Outcome, refused, unless, InvalidParam, QueueFull, EmptyBuffer, Busy, BadRecord, BadRegion}
+use Rattle.rules.specs.WellFormed.{addSteps, storeSteps}
+use Rattle.rules.specs.Answer.{Outcome, refused, unless}
 use Rattle.rules.specs.Step.{access, loaded, Reaction, verdict, storedCount, react, move}
-use Rattle.rules.specs.Calls.{fits, badList, full, addRefusal, callRefusal, stepRefusal, addOpened, opened, matches, openAdd, openPop, openPeek, andThen, moves, run, whole, add, popUsed, peekUsed}
+use Rattle.rules.specs.Calls.{fits, addRefusal, callRefusal, stepRefusal, addOpened, opened, matches, openAdd, openPop, openPeek, andThen, moves, run, whole, add, popUsed, peekUsed}
+use Rattle.laws.specs.Allowed.{step-allowed, call-allowed, add-allowed}
 use Rattle.laws.specs.CallKeeps.{Good, moves-keeps, open-pop-keeps, open-peek-keeps}
 use Rattle.laws.specs.Opening.{open-add-keeps}
 use Rattle.laws.specs.Runs.{onward, moves-closed, moves-open, moves-split, moves-after}
@@ -28,25 +26,6 @@ use Rattle.laws.specs.Regions.{still-fits, moves-fit, add-shaped, step-g
 -- ---- openings, refused or not
 
 module _ (q : Queue) (m : Memory) where
-  -- what refusals leave where none applies
-  step-allowed : stepRefusal q m ≡ 0 → fits q m ≡ true
-  step-allowed e =
-      let ts : List Test = (BadRecord when not (wellFormed q)) ∷ (BadRegion when not (fits q m)) ∷ [] in
-      let t : NoneOf ts = first-none ts (omega arith) e in
-      not-false (fits q m) (t .1 .0)
-
-  add-allowed : (bs : List Buffer) → addRefusal q m bs ≡ 0 → fits q m ≡ true
-  add-allowed bs e =
-      let ts : List Test = (BadRecord when not (wellFormed q)) ∷ (BadRegion when not (fits q m)) ∷ (Busy when isOpen (q .call)) ∷ (InvalidParam when badList bs) ∷ (QueueFull when full q (length bs)) ∷ (EmptyBuffer when not (noEmpty bs)) ∷ [] in
-      let t : NoneOf ts = first-none ts (omega arith) e in
-      not-false (fits q m) (t .1 .0)
-
-  pub call-allowed : callRefusal q m ≡ 0 → (fits q m ≡ true) × (isOpen (q .call) ≡ false)
-  call-allowed e =
-      let ts : List Test = (BadRecord when not (wellFormed q)) ∷ (BadRegion when not (fits q m)) ∷ (Busy when isOpen (q .call)) ∷ [] in
-      let t : NoneOf ts = first-none ts (omega arith) e in
-      (not-false (fits q m) (t .1 .0), t .1 .1 .0)
-
   -- an opening that is not refused
   pub add-opens : (bs : List Buffer) → addRefusal q m bs ≡ 0 → openAdd q m bs ≡ opened (addOpened q bs) m
   unfolding openAdd
@@ -199,7 +178,7 @@ resumed-is b o g =
 -- THE LAW: a run of a steps, and then one of b, is one of a + b; and so for any budgets
 pub run-split : (a b : ℕ) (q : Queue) (m : Memory) → Good q → stepRefusal q m ≡ 0 → run (a + b) q m ≡ resumed (run a q m) b
 run-split a b q m g e =
-    let s : Going (opened q m) = record { good = g; fit = step-allowed q m e; blank = λ z. (refl, refl) } in
+    let s : Going (opened q m) = record { good = g; fit = step-allowed q (fits q m) e .1; blank = λ z. (refl, refl) } in
     run-is (a + b) q m e
     ∙ moves-split a b (opened q m)
     ∙ sym (resumed-is b (moves a (opened q m)) (going-on a (opened q m) s))
@@ -226,7 +205,7 @@ module _ (q : Queue) (m : Memory) (g : Good q) (b : List ℕ) (l : q .n + 4 ≤ 
   pub add-by-runs : (bs : List Buffer) → addRefusal q m bs ≡ 0 → runs (openAdd q m bs) b ≡ add q m bs
   add-by-runs bs e =
       let o : Outcome = opened (addOpened q bs) m in
-      let f : fits (addOpened q bs) m ≡ true = still-fits (addOpened q bs) q m m (add-shaped q bs) (record { one = refl; two = refl; pool = refl }) ∙ add-allowed q m bs e in
+      let f : fits (addOpened q bs) m ≡ true = still-fits (addOpened q bs) q m m (add-shaped q bs) (record { one = refl; two = refl; pool = refl }) ∙ add-allowed q (fits q m) bs e .fits in
       ap (λ r. runs r b) (add-opens q m bs e)
       ∙ whole-runs (q .n) o b (record { good = add-good q m g bs e; fit = f; blank = λ z. (refl, refl) }) (add-shaped q bs .n) l
       ∙ sym (add-is q m bs e)
@@ -235,12 +214,12 @@ module _ (q : Queue) (m : Memory) (g : Good q) (b : List ℕ) (l : q .n + 4 ≤ 
   pop-by-runs t bs e =
       let o : Outcome = opened (withCall q (PopIdx t (matches q t bs))) m in
       ap (λ r. runs r b) (pop-opens q m t bs e)
-      ∙ whole-runs (q .n) o b (record { good = pop-good q m g t bs e; fit = call-allowed q m e .0; blank = λ z. (refl, refl) }) refl l
+      ∙ whole-runs (q .n) o b (record { good = pop-good q m g t bs e; fit = call-allowed q (fits q m) e .fits; blank = λ z. (refl, refl) }) refl l
       ∙ sym (pop-is q m t bs e)
 
   pub peek-by-runs : callRefusal q m ≡ 0 → runs (openPeek q m) b ≡ peekUsed q m
   peek-by-runs e =
       let o : Outcome = opened (withCall q PeekIdx) m in
       ap (λ r. runs r b) (peek-opens q m e)
-      ∙ whole-runs (q .n) o b (record { good = peek-good q m g e; fit = call-allowed q m e .0; blank = λ z. (refl, refl) }) refl l
+      ∙ whole-runs (q .n) o b (record { good = peek-good q m g e; fit = call-allowed q (fits q m) e .fits; blank = λ z. (refl, refl) }) refl l
       ∙ sym (peek-is q m e)

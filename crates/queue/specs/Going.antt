@@ -4,11 +4,9 @@ use mathlib.Core.Bool.{Bool, true, false, cond}
 use mathlib.Core.List.{List}
 use Prim.Native.Nat.{ℕ, _+_, _≤_}
 use native.Mathlib.Omega.{arith}
-use borrow.Author.Tests.{eq-eqb, ne-eqb, eqb-true, not-false}
+use borrow.Author.Tests.{eq-eqb, ne-eqb, eqb-true}
 use lib.Dec.{eqb}
 use lib.ListN.{length}
-use Rattle.lists.specs.Pick.{first}
-use Rattle.lists.specs.PickLaws.{first-none, NoneOf}
 use Rattle.virtio.specs.declared.Buffer.{Buffer}
 use Rattle.virtio.specs.Memory.{Memory}
 use Rattle.rules.specs.declared.Open.the-variants.{PopIdx, PeekIdx}
@@ -23,8 +21,8 @@ use Rattle.views.specs.declared.Core.{Core}
 use Rattle.views.specs.Tables.{tablesOf, queueOf}
 use Rattle.wellformed.specs.Room.{Room}
 use Rattle.tables.specs.Ready.{Ready}
-use Rattle.refusals.specs.Refusals.{addTests}
-use Rattle.refusals.specs.Checked.{Indices, allowed, ready, fitting}
+use Rattle.laws.specs.Allowed.{call-allowed, add-allowed}
+use Rattle.refusals.specs.Checked.{Indices, ready, fitting}
 use Rattle.queue.specs.declared.Done.{Done}
 use Rattle.queue.specs.Outcomes.{doneOf, Going}
 use Rattle.queue.specs.Steps.{fitting-like}
@@ -40,12 +38,6 @@ not-refused k q m o e = go (eqb k 0) refl e
 
 went-on : (k : ℕ) (q : Queue) (m : Memory) (o : Outcome) → k ≡ 0 → unless k q m o ≡ o
 went-on k q m o e = rw (eq-eqb k 0 e) refl
-
--- what an add has that nothing refuses
-pub add-allowed : (q : Queue) (fit : Bool) (bs : List Buffer) → first (addTests q fit bs) ≡ 0 → (wellFormed q ≡ true) × (fit ≡ true)
-add-allowed q fit bs e =
-    let t : NoneOf (addTests q fit bs) = first-none (addTests q fit bs) (omega arith) e in
-    (not-false (wellFormed q) (t .0), not-false fit (t .1 .0))
 
 module _ (c : Core) (r : ℕ) (words lens halves : List ℕ) (sides : List Bool) (one two pool : List ℕ) (o : Done)
     (room : Room c r words lens halves sides) (wide : Indices c) where
@@ -94,8 +86,8 @@ module _ (c : Core) (r : ℕ) (words lens halves : List ℕ) (sides : List Bool)
     pub add-going : (bs : List Buffer) → doneOf o t′ m ≡ openAdd q m bs → Going o r words′ lens′ halves′ sides′ one two pool
     add-going bs e =
         going (addRefusal q m bs) (addOpened q bs) (e ∙ add-opening q m bs)
-        (λ z. add-allowed q (fits q m) bs z .0)
-        (λ z. add-allowed q (fits q m) bs z .1)
+        (λ z. add-allowed q (fits q m) bs z .well)
+        (λ z. add-allowed q (fits q m) bs z .fits)
         (add-shaped q bs)
         (λ g. subst (λ (x : Outcome). Good (x .queue)) (add-opening q m bs) (open-add-keeps q m bs g))
 
@@ -103,16 +95,16 @@ module _ (c : Core) (r : ℕ) (words lens halves : List ℕ) (sides : List Bool)
   pub pop-going : (t : ℕ) (bs : List Buffer) → doneOf o (q .tables) m ≡ openPop q m t bs → Going o r words lens halves sides one two pool
   pop-going t bs e =
       going words lens halves sides refl refl refl refl (callRefusal q m) (withCall q (PopIdx t (matches q t bs))) (e ∙ pop-opening q m t bs)
-      (λ z. allowed q (fits q m) z .well)
-      (λ z. allowed q (fits q m) z .fits)
+      (λ z. call-allowed q (fits q m) z .well)
+      (λ z. call-allowed q (fits q m) z .fits)
       (record { n = refl; modes = refl })
       (λ g. subst (λ (x : Outcome). Good (x .queue)) (pop-opening q m t bs) (open-pop-keeps q m t bs g))
 
   pub peek-going : doneOf o (q .tables) m ≡ openPeek q m → Going o r words lens halves sides one two pool
   peek-going e =
       going words lens halves sides refl refl refl refl (callRefusal q m) (withCall q PeekIdx) (e ∙ peek-opening q m)
-      (λ z. allowed q (fits q m) z .well)
-      (λ z. allowed q (fits q m) z .fits)
+      (λ z. call-allowed q (fits q m) z .well)
+      (λ z. call-allowed q (fits q m) z .fits)
       (record { n = refl; modes = refl })
       (λ g. subst (λ (x : Outcome). Good (x .queue)) (peek-opening q m) (open-peek-keeps q m g))
 

@@ -15,7 +15,8 @@ use Rattle.rules.specs.Calls.{fits, callRefusal, canPop, shouldNotify, setDevNo
 use Rattle.views.specs.declared.Core.{Core}
 use Rattle.views.specs.Tables.{queueOf}
 use Rattle.tables.specs.Ready.{Fitting}
-use Rattle.refusals.specs.Checked.{allowed, fitting}
+use Rattle.laws.specs.Allowed.{call-allowed}
+use Rattle.refusals.specs.Checked.{fitting}
 use Rattle.access.specs.Accesses.{memory}
 use Rattle.queue.specs.declared.Done.{Done}
 use Rattle.queue.specs.Outcomes.{doneOf}
@@ -26,7 +27,7 @@ module _ (c : Core) (t : Tables) (m : Memory) (x : ℕ) (e : x ≡ callRefusal (
   -- where none applies the regions do
   pub regions : x ≡ 0 → Fitting c (m .one) (m .two) (m .pool)
   regions z =
-      fitting c (m .one) (m .two) (m .pool) (allowed (queueOf c t) (fits (queueOf c t) m) (sym e ∙ z) .fits)
+      fitting c (m .one) (m .two) (m .pool) (call-allowed (queueOf c t) (fits (queueOf c t) m) (sym e ∙ z) .fits)
 
   module _ (r : Done) where
     -- a refusal

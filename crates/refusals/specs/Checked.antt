@@ -1,18 +1,18 @@
 -- What a call has that nothing refuses: a record that is held and well formed, in words with room for it, and regions that do.
 use mathlib.Core.Path.{_≡_, _∙_}
-use mathlib.Core.Bool.{Bool, true, false, not, _&&_, _||_}
+use mathlib.Core.Bool.{Bool, true, not, _&&_, _||_}
 use mathlib.Core.List.{List}
 use Prim.Native.Nat.{ℕ, _*_, _≤_, _<_}
 use native.Mathlib.Nat.{mul-le-mul}
 use native.Mathlib.Omega.{arith}
-use borrow.Author.Tests.{leb-true, not-false}
+use borrow.Author.Tests.{leb-true}
 use lib.Dec.{leb}
 use lib.ListN.{length, length-map, length-take, length-drop, drop}
 use Rattle.lists.specs.Tests.{and-left, and-right, implied}
-use Rattle.lists.specs.Pick.{first, rising}
-use Rattle.lists.specs.PickLaws.{length-rising, first-none, NoneOf}
+use Rattle.lists.specs.Pick.{rising}
+use Rattle.lists.specs.PickLaws.{length-rising}
 use Rattle.virtio.specs.Layout.{needOne, needTwo, needPool}
-use Rattle.rules.specs.Record.{Queue, isOpen}
+use Rattle.rules.specs.Record.{Queue}
 use Rattle.rules.specs.WellFormed.{wellFormed}
 use Rattle.rules.specs.Meaning.{WellFormed}
 use Rattle.laws.specs.WellFormedIs.{means-size, well-formed-means}
@@ -21,7 +21,7 @@ use Rattle.views.specs.declared.Core.{Core}
 use Rattle.views.specs.Tables.{descIn, entryIn, tablesOf, queueOf}
 use Rattle.wellformed.specs.Room.{Room}
 use Rattle.tables.specs.Ready.{Ready, Fitting}
-use Rattle.refusals.specs.Refusals.{fitsBy, stepTests, callTests}
+use Rattle.refusals.specs.Refusals.{fitsBy}
 
 -- the 16-bit indices of a struct
 pub record Indices (c : Core) : Type 0 where
@@ -68,22 +68,6 @@ module _ (c : Core) (r : ℕ) (words lens halves : List ℕ) (sides : List Bool)
           well = w;
         };
       }
-
--- what a call has that is not refused before its own tests
-pub record Allowed (q : Queue) (fit : Bool) : Type 0 where
-  pub well : wellFormed q ≡ true
-  pub fits : fit ≡ true
-  pub idle : isOpen (q .call) ≡ false
-
-pub step-allowed : (q : Queue) (fit : Bool) → first (stepTests q fit) ≡ 0 → (wellFormed q ≡ true) × (fit ≡ true)
-step-allowed q fit e =
-    let t : NoneOf (stepTests q fit) = first-none (stepTests q fit) (omega arith) e in
-    (not-false (wellFormed q) (t .0), not-false fit (t .1 .0))
-
-pub allowed : (q : Queue) (fit : Bool) → first (callTests q fit) ≡ 0 → Allowed q fit
-allowed q fit e =
-    let t : NoneOf (callTests q fit) = first-none (callTests q fit) (omega arith) e in
-    record { well = not-false (wellFormed q) (t .0); fits = not-false fit (t .1 .0); idle = t .1 .1 .0 }
 
 -- the size of a well-formed record, and its num_used
 pub sized : (q : Queue) → wellFormed q ≡ true → (q .n ≤ 64) × (q .counts .used ≤ q .n)

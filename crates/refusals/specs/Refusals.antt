@@ -1,4 +1,4 @@
--- The refusals of the calls as lists of tests, where it is known whether the regions do.
+-- The refusals of the calls case by case, where it is known whether the regions do.
 use mathlib.Core.Path.{_≡_, refl, sym, _∙_}
 use mathlib.Core.Bool.{Bool, true, false, not, _&&_, _||_}
 use mathlib.Core.List.{List, [], _∷_}
@@ -14,8 +14,8 @@ use Rattle.virtio.specs.Chain.{inOrder}
 use Rattle.virtio.specs.Layout.{needOne, needTwo, needPool}
 use Rattle.rules.specs.Record.{Queue, isOpen}
 use Rattle.rules.specs.WellFormed.{broken, wellFormed, noEmpty}
-use Rattle.rules.specs.Answer.{InvalidParam, QueueFull, EmptyBuffer, Busy, BadRecord, BadRegion}
-use Rattle.rules.specs.Calls.{badList, full}
+use Rattle.rules.specs.Answer.{InvalidParam, QueueFull, EmptyBuffer, Busy}
+use Rattle.rules.specs.Calls.{badList, full, stepTests, callTests, addTests}
 use Rattle.views.specs.declared.Core.{Core}
 
 -- regions of these lengths do
@@ -23,24 +23,6 @@ abbrev pub fitsBy : Core → ℕ → ℕ → ℕ → Bool
 fitsBy c one two pool =
     leb (needOne (c .modes .legacy) (c .n)) one
     && (leb (needTwo (c .modes .legacy) (c .n)) two && (not (c .modes .indirect) || leb (needPool (c .n)) pool))
-
--- the refusals, where it is known whether the regions do
-abbrev pub stepTests : Queue → Bool → List Test
-stepTests q fit = (BadRecord when not (wellFormed q)) ∷ (BadRegion when not fit) ∷ []
-
-abbrev pub callTests : Queue → Bool → List Test
-callTests q fit =
-    (BadRecord when not (wellFormed q)) ∷ (BadRegion when not fit) ∷ (Busy when isOpen (q .call)) ∷ []
-
-abbrev pub addTests : Queue → Bool → List Buffer → List Test
-addTests q fit bs =
-    (BadRecord when not (wellFormed q))
-    ∷ (BadRegion when not fit)
-    ∷ (Busy when isOpen (q .call))
-    ∷ (InvalidParam when badList bs)
-    ∷ (QueueFull when full q (length bs))
-    ∷ (EmptyBuffer when not (noEmpty bs))
-    ∷ []
 
 -- ---- case by case
 

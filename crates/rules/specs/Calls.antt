@@ -7,7 +7,7 @@ use lib.Dec.{ltb, leb, eqb}
 use lib.ListN.{length, getD, set}
 use lib.Seq.{sets}
 use Rattle.lists.specs.Index.{after}
-use Rattle.lists.specs.Pick.{_when_, first, one-if}
+use Rattle.lists.specs.Pick.{Test, _when_, first, one-if}
 use Rattle.lists.specs.Walk.{hop}
 use Rattle.virtio.specs.declared.Desc.{Desc}
 use Rattle.virtio.specs.declared.Buffer.{Buffer}
@@ -40,29 +40,33 @@ full q k =
     eqb (q .counts .used) (q .n)
     || (ltb (q .n) k || (not (q .modes .indirect) && ltb (q .n) (q .counts .used + k)))
 
-module _ (q : Queue) where
-  abbrev pub addRefusal : Memory → List Buffer → ℕ
-  addRefusal m bs = first (
+-- the tests in 01's order, where it is told whether the lent memory does: of a step; of a call that is opened or makes a single step; of an add
+module _ (q : Queue) (fit : Bool) where
+  abbrev pub stepTests : List Test
+  stepTests = (BadRecord when not (wellFormed q)) ∷ (BadRegion when not fit) ∷ []
+
+  abbrev pub callTests : List Test
+  callTests = (BadRecord when not (wellFormed q)) ∷ (BadRegion when not fit) ∷ (Busy when isOpen (q .call)) ∷ []
+
+  abbrev pub addTests : List Buffer → List Test
+  addTests bs =
       (BadRecord when not (wellFormed q))
-      ∷ (BadRegion when not (fits q m))
+      ∷ (BadRegion when not fit)
       ∷ (Busy when isOpen (q .call))
       ∷ (InvalidParam when badList bs)
       ∷ (QueueFull when full q (length bs))
       ∷ (EmptyBuffer when not (noEmpty bs))
       ∷ []
-      )
 
-  -- at the opening of a pop or a peek, and of a call of a single step
+module _ (q : Queue) where
+  abbrev pub addRefusal : Memory → List Buffer → ℕ
+  addRefusal m bs = first (addTests q (fits q m) bs)
+
   abbrev pub callRefusal : Memory → ℕ
-  callRefusal m = first (
-      (BadRecord when not (wellFormed q))
-      ∷ (BadRegion when not (fits q m))
-      ∷ (Busy when isOpen (q .call))
-      ∷ []
-      )
+  callRefusal m = first (callTests q (fits q m))
 
   abbrev pub stepRefusal : Memory → ℕ
-  stepRefusal m = first ((BadRecord when not (wellFormed q)) ∷ (BadRegion when not (fits q m)) ∷ [])
+  stepRefusal m = first (stepTests q (fits q m))
 
   abbrev pub countRefusal : ℕ
   countRefusal = first ((BadRecord when not (wellFormed q)) ∷ (Busy when isOpen (q .call)) ∷ [])

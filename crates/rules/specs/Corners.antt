@@ -4,7 +4,7 @@ use mathlib.Core.Path.{_≡_, refl}
 use mathlib.Core.Bool.{Bool, true, false}
 use mathlib.Core.List.{List, [], _∷_, _++_}
 use Prim.Native.Nat.{ℕ, _+_}
-use lib.ListN.{getD, take, drop}
+use lib.ListN.{getD, take, drop, replicate}
 use Rattle.virtio.specs.declared.Buffer.{Buffer}
 use Rattle.virtio.specs.Desc.{noBuffer}
 use Rattle.virtio.specs.Memory.{Memory, used-flags, used-idx, avail-event, used-id, used-len}
@@ -75,6 +75,10 @@ kept-at i s =
 abbrev eventful : State
 eventful = gives 0 16 (left (adding (buffers 2) (made (four events))))
 
+-- the device has overwritten the pool
+abbrev scribbled : State → State
+scribbled s = record { queue = s .queue; memory = record { one = s .memory .one; two = s .memory .two; pool = replicate 256 9 } }
+
 abbrev pub addCorners : List Case
 addCorners =
     -- 1: an input after an output, at once or later
@@ -124,6 +128,8 @@ popCorners =
     ∷ answers lists (input 7 ∷ sized 8 17 ∷ [])
     ∷ answers lists (buffer 7 ∷ buffer 8 ∷ [])
     ∷ record { got = said (popping 0 mixed (returned plain)) ++ said (popping 0 mixed (returned lists)); want = 0 ∷ 16 ∷ 0 ∷ 16 ∷ [] }
+    -- the list is compared with the private copy: what the device writes to the pool changes nothing
+    ∷ record { got = said (popping 0 mixed (scribbled (returned lists))); want = 0 ∷ 16 ∷ [] }
     -- 4: the id wraps, the token does not
     ∷ record { got = said (popping 65539 (buffer 3 ∷ []) (gives 3 16 (left add4))); want = 4 ∷ 0 ∷ [] }
     ∷ record { got = said (popping 65539 (buffer 3 ∷ []) (gives 65539 16 (left add4))); want = 4 ∷ 0 ∷ [] }

@@ -2,7 +2,7 @@
 -- bytes, and that the device reads what was published, direct and indirect, as the list given. One statement over one list.
 use mathlib.Core.Path.{_≡_, refl}
 use mathlib.Core.Bool.{true, false}
-use mathlib.Core.List.{List, [], _∷_}
+use mathlib.Core.List.{List, [], _∷_, _++_}
 use Prim.Native.Nat.{ℕ}
 use lib.ListN.{take, drop}
 use Rattle.lists.specs.Pick.{one-if}
@@ -10,10 +10,10 @@ use Rattle.virtio.specs.declared.Buffer.{Buffer}
 use Rattle.virtio.specs.Chain.{Reading, faulty, buffers, chainAt}
 use Rattle.rules.specs.Record.{freeCount}
 use Rattle.rules.specs.Answer.{Outcome}
-use Rattle.rules.specs.Calls.{sameList, run, openAdd}
+use Rattle.rules.specs.Calls.{sameList, run, openAdd, openPop}
 use Rattle.rules.specs.Owning.{shown, Owned, ownNew, poll}
 use Rattle.rules.specs.Computing.{computing}
-use Rattle.rules.specs.Cases.{Case, agree, State, plain, lists, four, made, left, gives, adding, popping}
+use Rattle.rules.specs.Cases.{Case, agree, State, plain, lists, events, four, made, left, gives, adding, popping}
 
 abbrev both : List Buffer
 both = record { addr = 4096; len = 10; output = false } ∷ record { addr = 8192; len = 20; output = true } ∷ []
@@ -40,6 +40,18 @@ at-head base o = reads (chainAt 4 base (o .memory) 0) both
 abbrev half : ℕ → Outcome
 half b =
     let o : Outcome = openAdd (four plain .queue) (four plain .memory) both in
+    run b (o .queue) (o .memory)
+
+-- so an indirect add, and the pop of a chain of two with event_idx, which the device has given back
+abbrev half-listed : ℕ → Outcome
+half-listed b =
+    let o : Outcome = openAdd (four lists .queue) (four lists .memory) both in
+    run b (o .queue) (o .memory)
+
+abbrev half-popped : ℕ → Outcome
+half-popped b =
+    let s : State = gives 0 20 (left (adding both (made (four events)))) in
+    let o : Outcome = openPop (s .queue) (s .memory) 0 both in
     run b (o .queue) (o .memory)
 
 -- an owning queue of 4 buffers of 8 bytes, whose store holds 1, 2, 3, .. in buffer 2; the device reports 5 bytes of it
@@ -76,6 +88,12 @@ worked =
     ∷ record { got = take 2 (drop 66 (half 4 .memory .one)); want = 0 ∷ 0 ∷ [] }
     ∷ record { got = take 2 (drop 28 (half 2 .memory .one)); want = 3 ∷ 0 ∷ [] }
     ∷ record { got = take 2 (drop 28 (half 3 .memory .one)); want = 2 ∷ 0 ∷ [] }
+    -- an indirect add stores its entries first, then the descriptor
+    ∷ record { got = take 1 (drop 12 (half-listed 1 .memory .pool)) ++ take 1 (drop 28 (half-listed 2 .memory .pool)); want = 1 ∷ 2 ∷ [] }
+    ∷ record { got = take 1 (drop 12 (half-listed 2 .memory .one)) ++ take 1 (drop 12 (half-listed 3 .memory .one)); want = 0 ∷ 4 ∷ [] }
+    -- a pop stores the freed descriptors first, then used_event
+    ∷ record { got = take 1 (drop 8 (half-popped 3 .memory .one)) ++ take 1 (drop 8 (half-popped 4 .memory .one)); want = 10 ∷ 0 ∷ [] }
+    ∷ record { got = take 1 (drop 76 (half-popped 5 .memory .one)) ++ take 1 (drop 76 (half-popped 6 .memory .one)); want = 0 ∷ 1 ∷ [] }
     -- owning: the store is cleared, its last byte stays; a poll shows the first bytes of the token's buffer
     ∷ record { got = drop 30 (owned .store); want = 0 ∷ 0 ∷ 7 ∷ [] }
     ∷ record { got = shown (polled .view) (polled .store); want = 1 ∷ 2 ∷ 3 ∷ 4 ∷ 5 ∷ [] }

@@ -61,12 +61,7 @@ impl<const N: usize> Calls for VirtQueue<Script, N> {
 }
 
 /// None for a size that the crate would refuse when it is compiled, or that is above 64.
-pub fn open(
-    size: usize,
-    port: &mut Port,
-    indirect: bool,
-    event: bool,
-) -> Option<Result<Box<dyn Calls>>> {
+pub fn open(size: u64, port: &mut Port, indirect: bool, event: bool) -> Option<Box<dyn Calls>> {
     macro_rules! sizes {
         ($($n:literal)*) => {
             match size {
@@ -76,7 +71,7 @@ pub fn open(
             }
         };
     }
-    Some(sizes!(1 2 4 8 16 32 64))
+    Some(sizes!(1 2 4 8 16 32 64).expect("a port that refuses nothing"))
 }
 
 /// The numbers of the scope paper for the crate's errors.

@@ -1,21 +1,43 @@
 //! The host that the queue talks to: memory, addresses and transport as the script wants them.
+use crate::script::LARGEST;
 use queue::hal::{BufferDirection, Hal, PhysAddr};
 use queue::{PAGE_SIZE, transport::Transport};
 use std::alloc::{Layout, alloc_zeroed};
+use std::collections::BTreeMap;
+use std::ops::Range;
 use std::{cell::RefCell, ptr::NonNull};
 
+/// The addresses of region one, region two and the pool.
+const BASES: [PhysAddr; 3] = [4096, 65536, 131072];
+
 /// What share and dma_alloc look up, since they have no self to keep it in.
-#[derive(Default)]
 struct Host {
-    /// Address told to the device and real start, for each region of the current queue.
-    regions: Vec<(PhysAddr, NonNull<u8>)>,
+    /// Region one and two, and the pool, which the crate does not know of: its lists are copied there.
+    memory: [NonNull<u8>; 3],
+    /// What the pages of each region that the current queue asked for held before they were zeroed.
+    before: Vec<Vec<u8>>,
     /// Real start and script address of each buffer of the add under way.
     buffers: Vec<(usize, PhysAddr)>,
-    /// Real start and bytes of each indirect list that is shared.
-    lists: Vec<(u64, usize)>,
+    /// Where in the pool a list of the add under way belongs.
+    slot: usize,
+    /// Real start and bytes of each indirect list that is shared, by its place in the pool.
+    lists: BTreeMap<usize, (usize, usize)>,
 }
 
-thread_local!(static HOST: RefCell<Host> = RefCell::default());
+/// Kept for good, so that bytes beyond what is lent stay as they were, as in our own program.
+fn memory(size: usize) -> NonNull<u8> {
+    let layout = Layout::from_size_align(size, PAGE_SIZE).expect("a layout");
+    // SAFETY: no size is 0.
+    NonNull::new(unsafe { alloc_zeroed(layout) }).expect("memory")
+}
+
+thread_local!(static HOST: RefCell<Host> = RefCell::new(Host {
+    memory: LARGEST.map(memory),
+    before: Vec::new(),
+    buffers: Vec::new(),
+    slot: 0,
+    lists: BTreeMap::new(),
+}));
 
 fn with<T>(act: impl FnOnce(&mut Host) -> T) -> T {
     HOST.with_borrow_mut(act)
@@ -25,96 +47,125 @@ fn with<T>(act: impl FnOnce(&mut Host) -> T) -> T {
 #[derive(Debug)]
 pub struct Script;
 
-// SAFETY: each region is a fresh allocation of zeroed, aligned pages that is never freed.
+// SAFETY: the regions are aligned pages, zeroed here, and one queue at a time is in use.
 unsafe impl Hal for Script {
-    /// Told addresses are fixed, 1 and 2 MiB, so that two runs print the same.
     fn dma_alloc(pages: usize, _: BufferDirection) -> (PhysAddr, NonNull<u8>) {
-        let layout = Layout::from_size_align(pages * PAGE_SIZE, PAGE_SIZE).expect("a layout");
-        // SAFETY: the queue asks for one page at least.
-        let start = NonNull::new(unsafe { alloc_zeroed(layout) }).expect("memory");
         with(|host| {
-            let address = (host.regions.len() as u64 + 1) << 20;
-            host.regions.push((address, start));
-            (address, start)
+            let (which, bytes) = (host.before.len(), pages * PAGE_SIZE);
+            assert!(bytes <= LARGEST[which], "more than there is");
+            let start = host.memory[which].as_ptr();
+            // SAFETY: the region was just found to have as many bytes.
+            unsafe {
+                host.before
+                    .push(std::slice::from_raw_parts(start, bytes).to_vec());
+                start.write_bytes(0, bytes);
+            }
+            (BASES[which], host.memory[which])
         })
     }
 
-    /// A start that the script did not name is a heap list of the queue's own.
+    /// A start that the script did not name is a heap list of the queue's own, told as its slot.
     unsafe fn share(buffer: NonNull<[u8]>, _: BufferDirection) -> PhysAddr {
         let start = buffer.cast::<u8>().as_ptr().expose_provenance();
         with(|host| match host.buffers.iter().find(|b| b.0 == start) {
             Some(buffer) => buffer.1,
             None => {
-                host.lists.push((start as u64, buffer.len()));
-                start as u64
+                host.lists.insert(host.slot, (start, buffer.len()));
+                BASES[2] + host.slot as u64
             }
         })
     }
 
     /// Told by its start and not by its address, which a script's buffer may happen to share.
     unsafe fn unshare(_: PhysAddr, buffer: NonNull<[u8]>, _: BufferDirection) {
-        let start = buffer.cast::<u8>().as_ptr().addr() as u64;
-        with(|host| host.lists.retain(|list| list.0 != start));
+        let start = buffer.cast::<u8>().as_ptr().addr();
+        with(|host| host.lists.retain(|_, list| list.0 != start));
     }
 }
 
-/// Names the buffers of the next add, and with none ends it.
-pub fn name_buffers(buffers: Vec<(usize, PhysAddr)>) {
-    with(|host| host.buffers = buffers);
+/// Names the buffers of the next add and the slot of its list; with none it ends it.
+pub fn name_buffers(buffers: Vec<(usize, PhysAddr)>, slot: usize) {
+    with(|host| (host.buffers, host.slot) = (buffers, slot));
 }
 
-/// The bytes of a live list, read where the queue put it.
-pub fn list_bytes(start: u64) -> Vec<u8> {
-    let size = with(|host| {
-        host.lists
-            .iter()
-            .find(|list| list.0 == start)
-            .map_or(0, |list| list.1)
-    });
-    let start = std::ptr::with_exposed_provenance(start as usize);
-    // SAFETY: the queue frees a list only after it has unshared it.
-    unsafe { std::slice::from_raw_parts(start, size) }.to_vec()
+/// What each page asked for held before it was zeroed.
+pub fn before() -> Vec<Vec<u8>> {
+    with(|host| host.before.clone())
 }
 
-/// The transport's part: what new asks, and the addresses it is told.
+/// Looks at the bytes of region one, region two or the pool.
+pub fn look<T>(which: usize, act: impl FnOnce(&[u8]) -> T) -> T {
+    let start = with(|host| host.memory[which]);
+    // SAFETY: the queue does nothing while this program looks.
+    act(unsafe { std::slice::from_raw_parts(start.as_ptr(), LARGEST[which]) })
+}
+
+/// Stores bytes, as far as there is room, and volatile because the queue has pointers of its own.
+pub fn store(which: usize, offset: usize, bytes: &[u8]) {
+    let start = with(|host| host.memory[which]);
+    for (at, byte) in (offset..LARGEST[which]).zip(bytes) {
+        // SAFETY: the place is below the region's length.
+        unsafe { start.as_ptr().add(at).write_volatile(*byte) };
+    }
+}
+
+fn list_bytes(list: (usize, usize)) -> &'static mut [u8] {
+    // SAFETY: the queue frees a list only after it has unshared it, and nobody keeps this view.
+    unsafe { std::slice::from_raw_parts_mut(std::ptr::with_exposed_provenance_mut(list.0), list.1) }
+}
+
+/// The bytes of the live lists, read where the queue has them, and their places in the pool.
+pub fn live_lists() -> Vec<(usize, Vec<u8>)> {
+    let lists = with(|host| host.lists.clone());
+    let bytes = lists
+        .into_iter()
+        .map(|(slot, list)| (slot, list_bytes(list).to_vec()));
+    bytes.collect()
+}
+
+/// A device's stores to the pool reach the live lists on the heap.
+pub fn pool_to_lists() {
+    for (slot, list) in with(|host| host.lists.clone()) {
+        look(2, |pool| {
+            list_bytes(list).copy_from_slice(&pool[slot..slot + list.1])
+        });
+    }
+}
+
+/// The transport's part: the layout that new asks for, and the addresses it is told.
 pub struct Port {
-    pub in_use: bool,
-    pub maximum: u32,
-    pub legacy: bool,
-    pub told: [PhysAddr; 3],
+    legacy: bool,
+    told: [PhysAddr; 3],
 }
 
 impl Port {
-    /// Forgets the regions of an earlier queue, so that told addresses start anew.
-    pub fn new(in_use: bool, maximum: u32, legacy: bool) -> Self {
-        with(|host| *host = Host::default());
+    /// Forgets an earlier queue's regions and lists.
+    pub fn new(legacy: bool) -> Self {
+        with(|host| (host.before, host.lists) = (Vec::new(), BTreeMap::new()));
         Port {
-            in_use,
-            maximum,
             legacy,
             told: [0; 3],
         }
     }
 
-    /// Real starts of table, available ring and used ring, found as a device would find them.
-    pub fn parts(&self) -> [*mut u8; 3] {
-        self.told.map(|address| {
-            with(|host| {
-                let region = host.regions.iter().rfind(|region| region.0 <= address);
-                let (base, start) = region.expect("an address of a region");
-                start.as_ptr().wrapping_add((address - base) as usize)
-            })
+    /// Where table, available ring and used ring lie, found as a device would find them.
+    pub fn parts(&self, size: usize) -> [(usize, Range<usize>); 3] {
+        let bytes = [16 * size, 6 + 2 * size, 6 + 8 * size];
+        [0, 1, 2].map(|part| {
+            let which = usize::from(self.told[part] >= BASES[1]);
+            let from = (self.told[part] - BASES[which]) as usize;
+            (which, from..from + bytes[part])
         })
     }
 }
 
 impl Transport for Port {
     fn queue_used(&mut self, _: u16) -> bool {
-        self.in_use
+        false
     }
 
     fn max_queue_size(&mut self, _: u16) -> u32 {
-        self.maximum
+        64
     }
 
     fn requires_legacy_layout(&self) -> bool {
@@ -125,6 +176,6 @@ impl Transport for Port {
         self.told = [table, avail, used];
     }
 
-    /// Never reached, as no script command makes the queue notify by itself.
+    /// Never reached, as no operation makes the queue notify by itself.
     fn notify(&mut self, _: u16) {}
 }

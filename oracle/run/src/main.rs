@@ -2,90 +2,93 @@
 mod board;
 mod calls;
 mod host;
-mod view;
+mod line;
+mod script;
 
-use board::{Board, Side};
-use std::io::{BufWriter, Write, stdin, stdout};
+use board::{Answer, Board, View, fill};
+use script::{Lent, Numbers, Op, operation};
+use std::io::{BufWriter, Read, Write, stdin, stdout};
 use std::panic::{AssertUnwindSafe, catch_unwind, set_hook};
-use std::{process::exit, str::FromStr};
+use std::process::exit;
 
-/// None stands for a line that is not of the script's language.
-fn num<T: FromStr>(word: Option<&&str>) -> Option<T> {
-    word?.parse().ok()
+/// What an operation leads to.
+enum Said {
+    Nothing,
+    Line(Answer),
+    /// The crate cannot be asked this.
+    Bad,
 }
 
-fn bit(word: Option<&&str>) -> Option<bool> {
-    num::<u8>(word).filter(|b| *b < 2).map(|b| b == 1)
+/// The queue in use, none after a refused new, and what is lent.
+struct Desk {
+    board: Option<Board>,
+    lent: Lent,
 }
 
-fn side(text: &str) -> Option<Side> {
-    let entry = |e: &str| {
-        e.split_once(':')
-            .and_then(|(a, l)| Some((a.parse().ok()?, l.parse().ok()?)))
-    };
-    if text.is_empty() {
-        Some(Side::new())
-    } else {
-        text.split(',').map(entry).collect()
-    }
-}
-
-fn sides(word: Option<&&str>) -> Option<(Side, Side)> {
-    let (ins, outs) = word?.split_once('|')?;
-    Some((side(ins)?, side(outs)?))
-}
-
-/// Two more words may follow: in use 0 or 1, and the device's maximum, for the refusals of new.
-fn new(words: &[&str], board: &mut Option<Board>) -> Option<String> {
-    let size = num(words.get(1))?;
-    let (indirect, event, legacy) = (bit(words.get(2))?, bit(words.get(3))?, bit(words.get(4))?);
-    let in_use = if words.len() > 5 {
-        bit(words.get(5))?
-    } else {
-        false
-    };
-    let maximum = if words.len() > 6 {
-        num(words.get(6))?
-    } else {
-        u32::MAX
-    };
-    *board = None;
-    let mut port = host::Port::new(in_use, maximum, legacy);
-    match calls::open(size, &mut port, indirect, event)? {
-        Ok(queue) => {
-            *board = Some(Board::new(queue, size, port.parts()));
-            let [table, avail, used] = port.told;
-            Some(format!("0 {table} {avail} {used}"))
+impl Desk {
+    /// A size that no queue can have is refused by number 5 here, as the crate refuses it unrun.
+    fn renew(&mut self, size: u64, modes: u64, lent: Lent) -> Said {
+        *self = Desk { board: None, lent };
+        fill(lent);
+        self.board = Board::new(size, modes);
+        match &self.board {
+            Some(board) if !board.suits(lent) => Said::Bad,
+            Some(_) => Said::Line((0, 0)),
+            None => Said::Line((5, 0)),
         }
-        Err(error) => Some(format!("{} 0", calls::number(error))),
     }
-}
 
-fn command(words: &[&str], board: &mut Option<Board>) -> Option<String> {
-    if words[0] == "new" {
-        return new(words, board);
+    fn call(&mut self, op: Op) -> Said {
+        let Some(board) = &mut self.board else {
+            return Said::Bad;
+        };
+        let answer = match op {
+            Op::Add(Some(list)) => board.add(&list),
+            Op::Pop(token, Some(list)) if token < 65536 => board.pop(token as u16, &list),
+            Op::Peek => board.peek(),
+            Op::CanPop => (0, board.queue.can().into()),
+            Op::ShouldNotify => (0, board.queue.notify().into()),
+            Op::SetDevNotify(wanted) => {
+                board.queue.dev_notify(wanted);
+                (0, 0)
+            }
+            Op::Lend(lent) if board.suits(lent) => {
+                self.lent = lent;
+                return Said::Nothing;
+            }
+            _ => return Said::Bad,
+        };
+        board.refresh();
+        Said::Line(answer)
     }
-    let board = board.as_mut()?;
-    let (answer, value) = match words[0] {
-        "add" => {
-            let (ins, outs) = sides(words.get(1))?;
-            board.add(&ins, &outs)
+
+    /// The device's hand: region, offset, width and number.
+    fn store(&self, [region, offset, width, number]: [u64; 4]) -> Said {
+        let bytes = &number.to_le_bytes()[..width.min(8) as usize];
+        host::store(region.min(2) as usize, offset.min(65536) as usize, bytes);
+        host::pool_to_lists();
+        Said::Nothing
+    }
+
+    fn turn(&mut self, op: Op) -> Said {
+        match op {
+            Op::New { size, modes, lent } => self.renew(size, modes, lent),
+            Op::Other => Said::Nothing,
+            Op::Store(told) if self.board.is_some() => self.store(told),
+            op => self.call(op),
         }
-        "pop" => {
-            let (ins, outs) = sides(words.get(2))?;
-            board.pop(num(words.get(1))?, &ins, &outs)
+    }
+
+    fn line(&self, number: u64, answer: Answer) -> String {
+        let available = |board: &Board| {
+            let told = catch_unwind(AssertUnwindSafe(|| board.queue.avail()));
+            told.map_or("panic".into(), |count| count.to_string())
+        };
+        match &self.board {
+            Some(board) => line::line(number, answer, &board.view, &available(board), self.lent),
+            None => line::line(number, answer, &View::default(), "0", self.lent),
         }
-        "used" => board.used(num(words.get(1))?, num(words.get(2))?),
-        "peek" => board.peek(),
-        "can" => board.can(),
-        "notify?" => board.notify(),
-        "devnotify" => board.dev_notify(bit(words.get(1))?),
-        "avail" => board.avail(),
-        "event" => board.event(num(words.get(1))?),
-        "flags" => board.flags(num(words.get(1))?),
-        _ => return None,
-    };
-    Some(format!("{answer} {value}"))
+    }
 }
 
 /// A panic that is not the crate's own must not pass for an answer.
@@ -99,30 +102,31 @@ fn only_the_crate_may_panic() {
     }));
 }
 
+/// After a panic, or what cannot be asked, operations are passed over up to the next new.
 fn main() -> std::io::Result<()> {
     only_the_crate_may_panic();
+    let mut text = Vec::new();
+    stdin().read_to_end(&mut text)?;
+    let mut numbers = Numbers::new(&text);
     let mut out = BufWriter::new(stdout().lock());
-    let mut board = None;
-    for (number, line) in stdin().lines().enumerate() {
-        let line = line?;
-        let words: Vec<&str> = line.split_whitespace().collect();
-        if words.is_empty() || words[0].starts_with('#') {
+    let lent = Lent {
+        bytes: [0; 3],
+        show: 1,
+    };
+    let mut desk = Desk { board: None, lent };
+    let mut over = false;
+    while !numbers.done() {
+        let (number, op) = operation(&mut numbers);
+        if over && number != 1 {
             continue;
         }
-        match catch_unwind(AssertUnwindSafe(|| command(&words, &mut board))) {
-            Ok(Some(answer)) => writeln!(out, "{} {answer}", words[0])?,
-            Ok(None) => {
-                writeln!(out, "bad {}", number + 1)?;
-                out.flush()?;
-                exit(2);
-            }
-            Err(_) => {
-                writeln!(out, "{} panic", words[0])?;
-                break;
-            }
-        }
-        if let Some(board) = &board {
-            writeln!(out, "{}", board.state())?;
+        let said = catch_unwind(AssertUnwindSafe(|| desk.turn(op)));
+        over = matches!(said, Ok(Said::Bad) | Err(_));
+        match said {
+            Ok(Said::Nothing) => {}
+            Ok(Said::Line(answer)) => write!(out, "{}", desk.line(number, answer))?,
+            Ok(Said::Bad) => writeln!(out, "bad")?,
+            Err(_) => writeln!(out, "{number} panic")?,
         }
     }
     out.flush()

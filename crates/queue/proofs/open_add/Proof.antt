@@ -12,11 +12,11 @@ use Rattle.rules.specs.Calls.{fits, addRefusal, addOpened, opened}
 use Rattle.laws.specs.Opening.{addable}
 use Rattle.tables.specs.Ready.{Ready}
 use Rattle.opens.specs.Given.{given}
-use Rattle.refusals.specs.Refusals.{addTests}
+use Rattle.rules.specs.Calls.{addTests}
 use Rattle.refusals.specs.Checked.{Indices, ready}
 use Rattle.queue.specs.Outcomes.{doneOf}
 use Rattle.queue.specs.Opened.{says-no, says-yes, add-opening}
-use Rattle.queue.specs.Going.{add-allowed}
+use Rattle.laws.specs.Allowed.{add-allowed}
 use borrow.Author.Needs.{needs}
 use Rattle.queue.proofs.open_add.Statement.{statement}
 use Rattle.queue.proofs.open_add.Tie as tie
@@ -73,7 +73,7 @@ open-add-requires : tie.Need-open-add-requires
 open-add-requires c κs =
     let s : tie.Start = c .before .before .before .before .before .before .before .before .before .before .before .before .before .before .before .before .before .before .before .before .before in
     let z : addRefusal (record-of s) (memory-of s) (list-of s) ≡ 0 = sym (number (c .before .before .before .before .before)) ∙ c .before .before .before .before .if1 .left in
-    let a : Ready (s .args .c) (s .args .room) (now (s .args .words)) (now (s .args .lens)) (now (s .args .halves)) (now (s .args .sides)) = ready (s .args .c) (s .args .room) (now (s .args .words)) (now (s .args .lens)) (now (s .args .halves)) (now (s .args .sides)) (s .pre) (indices s) (add-allowed (record-of s) (fits (record-of s) (memory-of s)) (list-of s) z .0) in
+    let a : Ready (s .args .c) (s .args .room) (now (s .args .words)) (now (s .args .lens)) (now (s .args .halves)) (now (s .args .sides)) = ready (s .args .c) (s .args .room) (now (s .args .words)) (now (s .args .lens)) (now (s .args .halves)) (now (s .args .sides)) (s .pre) (indices s) (add-allowed (record-of s) (fits (record-of s) (memory-of s)) (list-of s) z .well) in
     (a, addable (record-of s) (memory-of s) (list-of s) (a .good .well) z)
 
 unmoved-requires-2 : tie.Need-unmoved-requires-2

@@ -9,7 +9,7 @@ use Rattle.access.specs.Accesses.{memory}
 use Rattle.rules.specs.declared.Open.the-variants.{PeekIdx}
 use Rattle.rules.specs.Record.{Queue, withCall}
 use Rattle.rules.specs.Calls.{callRefusal, opened}
-use Rattle.refusals.specs.Refusals.{callTests}
+use Rattle.rules.specs.Calls.{callTests}
 use Rattle.queue.specs.Outcomes.{doneOf}
 use Rattle.queue.specs.Opened.{says-no, says-yes, peek-opening}
 use borrow.Author.Needs.{needs}

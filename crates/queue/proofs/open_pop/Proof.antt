@@ -13,8 +13,9 @@ use Rattle.rules.specs.Record.{Queue, withCall}
 use Rattle.rules.specs.Answer.{Outcome}
 use Rattle.rules.specs.Calls.{callRefusal, opened, matches}
 use Rattle.opens.specs.Given.{given}
-use Rattle.refusals.specs.Refusals.{callTests}
-use Rattle.refusals.specs.Checked.{Indices, ready, allowed}
+use Rattle.rules.specs.Calls.{callTests}
+use Rattle.laws.specs.Allowed.{call-allowed}
+use Rattle.refusals.specs.Checked.{Indices, ready}
 use Rattle.queue.specs.Outcomes.{doneOf}
 use Rattle.queue.specs.Opened.{says-no, says-yes, pop-opening}
 use borrow.Author.Needs.{needs}
@@ -63,7 +64,7 @@ returns c =
 matches-requires : tie.Need-matches-requires
 matches-requires c κs =
     let s : tie.Start = c .before .before .before .before .before .before .before .before .before .before .before .before .before in
-    ready (s .args .c) (s .args .room) (now (s .args .words)) (now (s .args .lens)) (now (s .args .halves)) (now (s .args .sides)) (s .pre) (indices s) (allowed (record-of s) (c .before .before .fits2 .result) (sym (c .before .call-refusal .ensures) ∙ c .if1 .left) .well)
+    ready (s .args .c) (s .args .room) (now (s .args .words)) (now (s .args .lens)) (now (s .args .halves)) (now (s .args .sides)) (s .pre) (indices s) (call-allowed (record-of s) (c .before .before .fits2 .result) (sym (c .before .call-refusal .ensures) ∙ c .if1 .left) .well)
 
 with-call-requires : tie.Need-with-call-requires
 with-call-requires c κs = search needs

@@ -7,8 +7,9 @@ use Rattle.views.specs.Tables.{tablesOf, queueOf}
 use Rattle.access.specs.Accesses.{memory}
 use Rattle.rules.specs.Record.{Queue}
 use Rattle.rules.specs.Calls.{fits, stepRefusal, opened, moves}
-use Rattle.refusals.specs.Refusals.{stepTests}
-use Rattle.refusals.specs.Checked.{Indices, ready, fitting, step-allowed}
+use Rattle.rules.specs.Calls.{stepTests}
+use Rattle.laws.specs.Allowed.{step-allowed}
+use Rattle.refusals.specs.Checked.{Indices, ready, fitting}
 use Rattle.queue.specs.Opened.{says-no, says-yes, run-opening}
 use borrow.Author.Needs.{needs}
 use Rattle.queue.proofs.run.Statement.{statement}

@@ -10,7 +10,7 @@ use Rattle.rules.specs.Record.{Queue}
 use Rattle.rules.specs.Calls.{callRefusal}
 use Rattle.views.specs.Tables.{tablesOf, queueOf}
 use Rattle.tables.specs.Ready.{Fitting}
-use Rattle.refusals.specs.Refusals.{callTests}
+use Rattle.rules.specs.Calls.{callTests}
 use Rattle.access.specs.Accesses.{memory}
 use Rattle.queue.specs.Singles.{regions, should-notify-no, by-event, by-flags}
 use Rattle.queue.proofs.should_notify.Statement.{statement}

@@ -12,8 +12,10 @@ use Rattle.rules.specs.Calls.{full}
 use Rattle.views.specs.Tables.{tablesOf, queueOf}
 use Rattle.opens.specs.Given.{given}
 use Rattle.opens.specs.Turns.{given-length}
-use Rattle.refusals.specs.Checked.{Allowed, allowed, sized}
-use Rattle.refusals.specs.Refusals.{callTests, add-stops, add-none, add-mixed, add-full, add-empty, add-told}
+use Rattle.laws.specs.Allowed.{Allowed, call-allowed}
+use Rattle.refusals.specs.Checked.{sized}
+use Rattle.rules.specs.Calls.{callTests}
+use Rattle.refusals.specs.Refusals.{add-stops, add-none, add-mixed, add-full, add-empty, add-told}
 use borrow.Author.Needs.{needs}
 use Rattle.refusals.proofs.add_refusal.Statement.{statement}
 use Rattle.refusals.proofs.add_refusal.Tie as tie
@@ -65,7 +67,7 @@ returns-3 c =
 
 full-requires : tie.Need-full-requires
 full-requires c κs =
-    let a : Allowed (record-of (c .before .before .before .before .before .before .before .before .before .before .before .before)) (c .before .before .before .before .before .before .before .before .before .before .before .before .args .fit) = allowed (record-of (c .before .before .before .before .before .before .before .before .before .before .before .before)) (c .before .before .before .before .before .before .before .before .before .before .before .before .args .fit) (goes (c .before .before .before)) in
+    let a : Allowed (record-of (c .before .before .before .before .before .before .before .before .before .before .before .before)) (c .before .before .before .before .before .before .before .before .before .before .before .before .args .fit) = call-allowed (record-of (c .before .before .before .before .before .before .before .before .before .before .before .before)) (c .before .before .before .before .before .before .before .before .before .before .before .before .args .fit) (goes (c .before .before .before)) in
     sized (record-of (c .before .before .before .before .before .before .before .before .before .before .before .before)) (a .well)
 
 returns-4 : tie.Need-returns-4

@@ -3,7 +3,8 @@ use mathlib.Core.Path.{_≡_, sym, _∙_}
 use Rattle.lists.specs.Pick.{first}
 use Rattle.rules.specs.Record.{Queue}
 use Rattle.views.specs.Tables.{tablesOf, queueOf}
-use Rattle.refusals.specs.Refusals.{stepTests, call-stops, call-busy, call-told}
+use Rattle.rules.specs.Calls.{stepTests}
+use Rattle.refusals.specs.Refusals.{call-stops, call-busy, call-told}
 use borrow.Author.Needs.{needs}
 use Rattle.refusals.proofs.call_refusal.Statement.{statement}
 use Rattle.refusals.proofs.call_refusal.Tie as tie

@@ -1,0 +1,105 @@
+"""The two programs, runs of them over many scripts, and the first difference made small."""
+import os
+import shutil
+import subprocess
+
+HERE = os.path.dirname(os.path.dirname(os.path.abspath(__file__)))
+ROOT = os.path.dirname(HERE)
+OURS = os.path.join(ROOT, "target", "bin", "calls_runs")
+ORACLE = os.path.join(HERE, "target", "release", "oracle")
+MOST = 1 << 20
+
+
+def source():
+    """Where the crate's own files are looked for, as oracle/queue/build.rs does."""
+    return os.path.join(ROOT, os.environ.get("VIRTIO_DRIVERS_SRC", "../shared/docs/src"))
+
+
+def missing():
+    """What a comparison with the crate itself would need and does not find."""
+    if not os.path.isfile(os.path.join(source(), "queue.rs")):
+        return "the crate's source is"
+    return None if shutil.which("cargo") else "cargo is"
+
+
+def build():
+    """Builds the oracle; cargo says what is wrong where it fails."""
+    command = ["cargo", "build", "--offline", "--release", "--quiet"]
+    return subprocess.run(command, cwd=HERE).returncode == 0
+
+
+def run(program, text):
+    """The lines that a program prints for a script; one that fails adds a line that says so."""
+    told = subprocess.run([program], input=text.encode(), stdout=subprocess.PIPE, stderr=subprocess.DEVNULL)
+    lines = told.stdout.decode().splitlines()
+    if told.returncode != 0:
+        lines.append(f"exit {told.returncode}")
+    return lines
+
+
+def both(ours, text):
+    """Ours first, as everywhere here."""
+    return run(ours, text), run(ORACLE, text)
+
+
+def first_difference(lines, theirs):
+    """The place of the first line that differs, or None."""
+    for at, (a, b) in enumerate(zip(lines, theirs)):
+        if a != b:
+            return at
+    return None if len(lines) == len(theirs) else min(len(lines), len(theirs))
+
+
+def differing(lines, theirs, at):
+    """The two lines there."""
+    return [some[at] if at < len(some) else "(no line)" for some in (lines, theirs)]
+
+
+def kind(ours, ops):
+    """What sort of difference a script shows: the operation and the two answers, or None."""
+    lines, theirs = both(ours, "\n".join(ops) + "\n")
+    at = first_difference(lines, theirs)
+    return None if at is None else [line.split()[:2] for line in differing(lines, theirs, at)]
+
+
+def shrunk(ours, ops):
+    """Drops operations, many at a time and then one by one, while the same sort of difference shows."""
+    wanted, step = kind(ours, ops), len(ops) // 2
+    while step:
+        at = 1
+        while at < len(ops):
+            fewer = ops[:at] + ops[at + step:]
+            if kind(ours, fewer) == wanted:
+                ops = fewer
+            else:
+                at += step
+        step //= 2
+    return ops
+
+
+def batches(scripts):
+    """Scripts together, as many as one run's input holds."""
+    some, size = [], 0
+    for script in scripts:
+        more = sum(map(len, script.ops)) + len(script.ops)
+        if size + more > MOST:
+            yield some
+            some, size = [], 0
+        some.append(script)
+        size += more
+    if some:
+        yield some
+
+
+def compare(ours, scripts):
+    """How many scripts and lines were the same, and the first script that was not, with its two lines."""
+    count = total = 0
+    for some in batches(scripts):
+        lines, theirs = both(ours, "".join(script.text() for script in some))
+        at = first_difference(lines, theirs)
+        if at is not None:
+            place = sum(line.startswith("1 ") for line in theirs[:at + 1])
+            return count, total, (some[max(place, 1) - 1].ops, differing(lines, theirs, at))
+        count += len(some)
+        total += len(lines)
+    return count, total, None

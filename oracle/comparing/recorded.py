@@ -1,0 +1,64 @@
+"""Scripts kept with the oracle's lines, for a comparison with no Rust at hand."""
+import os
+
+import programs
+import scripts
+import wraps
+
+FOLDER = os.path.join(programs.HERE, "recorded")
+
+
+def some_short():
+    """A few short scripts of each size and mode, spread over all of them."""
+    for size in (1, 2, 4):
+        for modes in range(4):
+            for word in list(scripts.words(size, modes, scripts.LETTERS, 5))[97::997]:
+                yield scripts.short(size, modes, word)
+
+
+def over_the_wrap(size, modes):
+    """A queue forged as the oracle had it short of the wrap, what follows, and the oracle's lines for that."""
+    pieces = list(wraps.pieces(1, size, modes, 65_515, 65_550))
+    before = programs.run(programs.ORACLE, wraps.joined(pieces[:-1]))
+    lines = programs.run(programs.ORACLE, wraps.joined(pieces))
+    return wraps.carried(pieces[0][0], before) + pieces[-1], lines[:1] + lines[len(before):]
+
+
+def write(name, ops, lines):
+    for ending, told in (("script", ops), ("lines", lines)):
+        with open(os.path.join(FOLDER, f"{name}.{ending}"), "w") as file:
+            file.write("\n".join(told) + "\n")
+
+
+def record():
+    """Makes the recorded files anew with the oracle."""
+    if not programs.build():
+        return 2
+    os.makedirs(FOLDER, exist_ok=True)
+    kinds = {"short": some_short(), "random": (scripts.some_script(0, index) for index in range(60))}
+    for name, made in kinds.items():
+        ops = [op for script in made for op in script.ops]
+        write(name, ops, programs.run(programs.ORACLE, "\n".join(ops) + "\n"))
+    for size, modes in ((1, 2), (4, 3), (8, 0)):
+        write(f"wrap{size}", *over_the_wrap(size, modes))
+    return 0
+
+
+def read(name, ending):
+    with open(os.path.join(FOLDER, f"{name}.{ending}")) as file:
+        return file.read()
+
+
+def replay(ours):
+    """Runs ours over the recorded scripts, and says the first line that differs."""
+    count = total = 0
+    for name in sorted(file[:-7] for file in os.listdir(FOLDER) if file.endswith(".script")):
+        lines, theirs = programs.run(ours, read(name, "script")), read(name, "lines").splitlines()
+        at = programs.first_difference(lines, theirs)
+        if at is not None:
+            print(f"differs: recorded/{name}, line {at + 1}:", *programs.differing(lines, theirs, at), sep="\n  ")
+            return 1
+        count += sum(line.startswith("1 ") for line in theirs)
+        total += len(theirs)
+    print(f"oracle: {count} recorded scripts, {total} lines, all the same")
+    return 0
