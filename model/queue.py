@@ -16,16 +16,17 @@ POOL_BASE = 131072
 class Queue:
     """A record and the three regions; a call gives its answer, value and steps."""
 
-    def __init__(self):
+    def __init__(self, pool_base=POOL_BASE):
+        self.pool_base = pool_base
         self.rec = Record()
-        self.regions = [Region(65536), Region(4096), Region(65536)]
+        self.regions = [Region(65536), Region(65536), Region(65536)]
         self.one, self.two, self.pool = self.regions
 
     def new(self, n, indirect, event, legacy):
         """Clears the three parts and links the table; a refused one leaves the all-zero record."""
         self.rec = rec = Record()
         rec.n, rec.indirect, rec.event, rec.legacy = n, indirect, event, legacy
-        rec.base = POOL_BASE if indirect else 0
+        rec.base = self.pool_base if indirect else 0
         if n not in SIZES or not self.fits():
             self.rec = Record()
             return 13 if n in SIZES else 5, 0, 0
