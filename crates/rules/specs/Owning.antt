@@ -6,7 +6,7 @@ use Prim.Native.Nat.{ℕ, zero, suc, _+_, _*_, _%_}
 use lib.Dec.{ltb, leb, eqb}
 use lib.ListN.{length, replicate, take, drop}
 use lib.Seq.{sets}
-use Rattle.lists.specs.Pick.{_when_, first, every, rising, same}
+use Rattle.lists.specs.Pick.{Test, _when_, first, every, rising, same}
 use Rattle.virtio.specs.declared.Buffer.{Buffer}
 use Rattle.virtio.specs.Memory.{Memory, used-idx, used-id, spot, loadAt}
 use Rattle.rules.specs.declared.Held.{Held}
@@ -88,14 +88,17 @@ module _ (o : Owning) where
 
 -- ---- new
 
-abbrev pub ownNewRefusal : Queue → ℕ → ℕ → Memory → List ℕ → ℕ
-ownNewRefusal q base size m s = first (
+-- the tests in 01's order, where it is told whether the lent memory and the store do
+abbrev pub ownNewTests : Queue → ℕ → Bool → List Test
+ownNewTests q size fit =
     (BadRecord when not (wellFormed q))
-    ∷ (BadRegion when not (fits q m && lends base (q .n * size) (length s)))
+    ∷ (BadRegion when not fit)
     ∷ (Busy when isOpen (q .call))
     ∷ (InvalidParam when not (sizeAllowed size && same (freeList q) (rising (q .n) 0)))
     ∷ []
-    )
+
+abbrev pub ownNewRefusal : Queue → ℕ → ℕ → Memory → List ℕ → ℕ
+ownNewRefusal q base size m s = first (ownNewTests q size (fits q m && lends base (q .n * size) (length s)))
 
 -- the k buffers from i on are added, each by itself
 unfoldable pub addOwn : ℕ → ℕ → ℕ → ℕ → Queue → Memory → Outcome
@@ -138,21 +141,19 @@ module _ (o : Owning) where
   abbrev pub ownFits : Memory → List ℕ → Bool
   ownFits m s = fits (o .queue) m && leb (o .queue .n * o .size) (length s)
 
+  abbrev pub pollTests : Bool → List Test
+  pollTests fit =
+      (BadRecord when not (ownWellFormed o)) ∷ (BadRegion when not fit) ∷ (Busy when not (holdsNone (o .held))) ∷ []
+
   abbrev pub pollRefusal : Memory → List ℕ → ℕ
-  pollRefusal m s = first (
-      (BadRecord when not (ownWellFormed o))
-      ∷ (BadRegion when not (ownFits m s))
-      ∷ (Busy when not (holdsNone (o .held)))
-      ∷ []
-      )
+  pollRefusal m s = first (pollTests (ownFits m s))
+
+  abbrev pub releaseTests : Bool → List Test
+  releaseTests fit =
+      (BadRecord when not (ownWellFormed o)) ∷ (BadRegion when not fit) ∷ (NotOutstanding when holdsNone (o .held)) ∷ []
 
   abbrev pub releaseRefusal : Memory → List ℕ → ℕ
-  releaseRefusal m s = first (
-      (BadRecord when not (ownWellFormed o))
-      ∷ (BadRegion when not (ownFits m s))
-      ∷ (NotOutstanding when holdsNone (o .held))
-      ∷ []
-      )
+  releaseRefusal m s = first (releaseTests (ownFits m s))
 
   -- an answer without a view
   abbrev pub plainly : ℕ → ℕ → Queue → Held → Memory → List ℕ → Owned
