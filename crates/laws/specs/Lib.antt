@@ -35,6 +35,14 @@
 --   CallChanges   which bytes runs and whole calls may change
 --   Still         what leaves the memory as it is: openings, peek, and every refusal; and all lengths
 --   UsedStays     no call changes region two or the used ring
+-- The owning queue:
+--   OwnIs         a record passes its test exactly where it is well formed in plain words: each token's buffer is out, alone and whole, or in hand
+--   OwnFree       what that says of the descriptors: with nothing held none is free, else just the held token's
+--   OwnAdds       one buffer added by itself, and so the held one given back under its own token
+--   OwnNew        owning new, refused, and made
+--   OwnViews      a view lies inside its own token's buffer, and only a poll has one
+--   OwnPoll       poll and release, exactly
+--   OwnKeeps      every call leaves a good record good; no buffer is lost or doubled
 pub mod WellFormedIs
 pub mod Placed
 pub mod Held
@@ -73,3 +81,10 @@ pub mod Changes
 pub mod CallChanges
 pub mod Still
 pub mod UsedStays
+pub mod OwnIs
+pub mod OwnFree
+pub mod OwnAdds
+pub mod OwnNew
+pub mod OwnViews
+pub mod OwnPoll
+pub mod OwnKeeps
