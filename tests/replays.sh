@@ -66,7 +66,7 @@ silent() {
     printf 'op=used\nid=%s\nlen=0\n' "$1"
 }
 
-# The longest output: 27 bytes of header, and blocks of 16 bytes, each of which prints 41; the last one fills up.
+# The longest output: 27 bytes of header, and blocks of 16 bytes, each of which prints 40; the last one fills up.
 loud() {
     printf 'size=64\nindirect=0\nevent=0\n'
     repeated 2045 'op=add\nin=\nout=\n'

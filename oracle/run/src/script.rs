@@ -61,7 +61,7 @@ impl<'t> Numbers<'t> {
 }
 
 /// How many bytes there are of region one, region two and the pool, in our own program too.
-pub const LARGEST: [usize; 3] = [65536, 4096, 65536];
+pub const LARGEST: [usize; 3] = [65536, 65536, 65536];
 
 /// How many bytes of each are lent, and what lines show.
 #[derive(Clone, Copy)]
