@@ -45,6 +45,15 @@ stored() {
     done
 }
 
+# The examples that a newcomer starts from.
+examples() {
+    for file in "$root"/examples/*.replay; do
+        case_name=$(basename "$file" .replay)
+        cp "$root/tests/examples/$case_name.expected" "$folder/want" || exit 2
+        outputs "example $case_name" "$program" <"$file"
+    done
+}
+
 # So many times the same text.
 repeated() {
     awk -v n="$1" -v text="$2" 'BEGIN { for (i = 0; i < n; i++) printf "%s", text }'
@@ -164,6 +173,7 @@ user_errors() {
 }
 
 stored
+examples
 [ $((same + different)) -gt 0 ] || {
     echo "replays: there are no stored cases"
     exit 1

@@ -5,6 +5,7 @@
 --   Demand    THE STATEMENT: a mixing with nothing left open leaves what whole operations in some order leave
 --   Mixings   mixings of a queue of size 2, computed, with the order that explains each
 --   Single    one of a queue of size 1, in the legacy layout
+--   Tried     mixings that wrong rules break, with all their orders tried
 -- Its proof:
 --   Turns     THE REDUCTION for sides in general, however many: events that leave an operation open change places with those of other sides
 --   Whole     a turn of one side alone is whole calls, or whole acts; so what is left to show is `Swaps`
@@ -20,6 +21,7 @@
 --   Swap      events change places
 --   Start     a fresh queue meets the invariant
 --   Proof     DEMAND 3, PROVED
+--   Ends      every mixing can be brought to its end, so that the statement leaves none out
 pub mod Device
 pub mod Writers
 pub mod Mix
@@ -49,3 +51,5 @@ pub mod Swap
 pub mod Start
 pub mod Proof
 pub mod WholeCalls
+pub mod Tried
+pub mod Ends

@@ -164,10 +164,10 @@ module _ (w : Wiring) where
         omega (arith, step-lowers (t .queue) (t .memory) (sane t v .good) o)))
         (λ o. ap (λ r. busy driver (trace w (replicate b step) r)) (step-idle t o) ∙ ap (busy driver) (rests step driver step-idle b t o) ∙ o)
 
-    abbrev finish : Trace → Trace
+    abbrev pub finish : Trace → Trace
     finish t = trace w (replicate (w .n + 4) step) t
 
-    finished : (t : Trace) → Inv t → busy driver (finish t) ≡ false
+    pub finished : (t : Trace) → Inv t → busy driver (finish t) ≡ false
     finished t v =
         let e : t .queue .n ≡ w .n = sane t v .size in
         steps-close (w .n + 4) t v (omega (arith, left-bound (t .queue) (sane t v .good)))
@@ -232,7 +232,7 @@ module _ (w : Wiring) where
   tick-open t e = rw e
 
   module _ (Inv : Trace → Type 0) (keeps : (e : Event) (t : Trace) → Inv t → Inv (event w e t)) (sane : (t : Trace) → Inv t → Sane w t) where
-    ticks-close : (b : ℕ) (t : Trace) → Inv t → ticksMost (w .n) (t .device .doing) ≤ b → busy device (trace w (replicate b tick) t) ≡ false
+    pub ticks-close : (b : ℕ) (t : Trace) → Inv t → ticksMost (w .n) (t .device .doing) ≤ b → busy device (trace w (replicate b tick) t) ≡ false
     unfolding trace
     ticks-close zero t v l =
         by-test (busy device t) (λ o. absurd (omega (arith, work-lowers (t .device .doing) (t .device) (t .memory) o))) (λ o. o)
