@@ -1,0 +1,11 @@
+-- The owning queue's struct and answers as the rules' records, and what the proofs of its calls cite.
+--   Owned   struct, answers, and the view
+--   Sound   what a well-formed owning record has
+--   Cases   the rules' calls case by case, by what the code's parts answer
+--   Making  new, and its adds one after the other
+--   Shown   the view is what poll told
+pub mod Owned
+pub mod Sound
+pub mod Cases
+pub mod Making
+pub mod Shown
