@@ -22,6 +22,7 @@
 --   Start     a fresh queue meets the invariant
 --   Proof     DEMAND 3, PROVED
 --   Ends      every mixing can be brought to its end, so that the statement leaves none out
+--   Takes     what the device takes is the chain by VIRTIO's own rule
 pub mod Device
 pub mod Writers
 pub mod Mix
@@ -53,3 +54,4 @@ pub mod Proof
 pub mod WholeCalls
 pub mod Tried
 pub mod Ends
+pub mod Takes
