@@ -7,6 +7,7 @@ HERE = os.path.dirname(os.path.dirname(os.path.abspath(__file__)))
 ROOT = os.path.dirname(HERE)
 OURS = os.path.join(ROOT, "target", "bin", "calls_runs")
 ORACLE = os.path.join(HERE, "target", "release", "oracle")
+PLAIN = os.path.join(HERE, "target", "debug", "oracle")
 MOST = 1 << 20
 
 
@@ -22,15 +23,15 @@ def missing():
     return None if shutil.which("cargo") else "cargo is"
 
 
-def build():
-    """Builds the oracle; cargo says what is wrong where it fails."""
-    command = ["cargo", "build", "--offline", "--release", "--quiet"]
+def build(*words):
+    """Builds the oracle, optimised unless other words are given; cargo says what is wrong where it fails."""
+    command = ["cargo", "build", "--offline", "--quiet", *(words or ["--release"])]
     return subprocess.run(command, cwd=HERE).returncode == 0
 
 
-def run(program, text):
+def run(program, text, *words):
     """The lines that a program prints for a script; one that fails adds a line that says so."""
-    told = subprocess.run([program], input=text.encode(), stdout=subprocess.PIPE, stderr=subprocess.DEVNULL)
+    told = subprocess.run([program, *words], input=text.encode(), stdout=subprocess.PIPE, stderr=subprocess.DEVNULL)
     lines = told.stdout.decode().splitlines()
     if told.returncode != 0:
         lines.append(f"exit {told.returncode}")

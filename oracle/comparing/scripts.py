@@ -5,6 +5,7 @@ from collections import deque
 SIZES = (1, 2, 4, 8, 16, 32, 64)
 INDIRECT, EVENT, LEGACY = 1, 2, 4
 LETTERS = "12onpkcs"
+BUFFERS = [(4096, 10, 0), (8192, 20, 1), (12288, 30, 1)]
 
 
 def needs(size, modes):
@@ -84,10 +85,8 @@ class Script:
 
 def letter(script, c):
     """One letter of a short script; False where it says nothing new."""
-    if c == "1":
-        script.add([(4096, 10, 0)])
-    elif c == "2":
-        script.add([(4096, 10, 0), (8192, 20, 1)])
+    if c in "123":
+        script.add(BUFFERS[:int(c)])
     elif c in "on":
         if len(script.pending) < (1 if c == "o" else 2):
             return False
@@ -96,13 +95,13 @@ def letter(script, c):
     elif c == "p":
         script.pop()
     else:
-        script.say({"k": "6 0", "c": "10 0", "s": "11 0"}[c])
+        script.say({"k": "6 0", "c": "10 0", "s": "11 0", "d": "12 0"}[c])
     return True
 
 
-def short(size, modes, word):
-    """The script of a word over LETTERS, or nothing where another word's script is the same."""
-    script = Script(size, modes)
+def short(size, modes, word, make=Script):
+    """The script of a word of letters, or nothing where another word's script is the same."""
+    script = make(size, modes)
     return script if all(letter(script, c) for c in word) else None
 
 

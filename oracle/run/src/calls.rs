@@ -1,5 +1,6 @@
 //! One face for queues of every size, since the size is a const parameter of the crate's type.
 use crate::host::{Port, Script};
+use crate::trace::watch;
 use queue::{Error, Result, VirtQueue};
 
 pub trait Calls {
@@ -22,7 +23,7 @@ pub trait Calls {
 impl<const N: usize> Calls for VirtQueue<Script, N> {
     fn add<'b>(&mut self, ins: &[&'b [u8]], outs: &mut [&'b mut [u8]]) -> Result<u16> {
         // SAFETY: nobody reads or writes a buffer's bytes in this program.
-        unsafe { VirtQueue::add(self, ins, outs) }
+        watch(|| unsafe { VirtQueue::add(self, ins, outs) })
     }
 
     fn pop<'a>(
@@ -32,23 +33,23 @@ impl<const N: usize> Calls for VirtQueue<Script, N> {
         outs: &'a mut [&'a mut [u8]],
     ) -> Result<u32> {
         // SAFETY: a list that differs from the added one does no harm, as unshare copies nothing.
-        unsafe { self.pop_used(token, ins, outs) }
+        watch(|| unsafe { self.pop_used(token, ins, outs) })
     }
 
     fn peek(&self) -> Option<u16> {
-        self.peek_used()
+        watch(|| self.peek_used())
     }
 
     fn can(&self) -> bool {
-        self.can_pop()
+        watch(|| self.can_pop())
     }
 
     fn notify(&self) -> bool {
-        self.should_notify()
+        watch(|| self.should_notify())
     }
 
     fn dev_notify(&mut self, wanted: bool) {
-        self.set_dev_notify(wanted);
+        watch(|| self.set_dev_notify(wanted));
     }
 
     fn avail(&self) -> usize {

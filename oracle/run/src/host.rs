@@ -4,6 +4,7 @@ use queue::hal::{BufferDirection, Hal, PhysAddr};
 use queue::{PAGE_SIZE, transport::Transport};
 use std::alloc::{Layout, alloc_zeroed};
 use std::collections::BTreeMap;
+use std::hint::black_box;
 use std::ops::Range;
 use std::{cell::RefCell, ptr::NonNull};
 
@@ -76,8 +77,9 @@ unsafe impl Hal for Script {
         })
     }
 
-    /// Told by its start and not by its address, which a script's buffer may happen to share.
-    unsafe fn unshare(_: PhysAddr, buffer: NonNull<[u8]>, _: BufferDirection) {
+    /// Told by its start and not by its address, which a script's buffer may happen to share; a Hal may look at it all the same.
+    unsafe fn unshare(address: PhysAddr, buffer: NonNull<[u8]>, _: BufferDirection) {
+        black_box(address);
         let start = buffer.cast::<u8>().as_ptr().addr();
         with(|host| host.lists.retain(|_, list| list.0 != start));
     }
@@ -86,6 +88,18 @@ unsafe impl Hal for Script {
 /// Names the buffers of the next add and the slot of its list; with none it ends it.
 pub fn name_buffers(buffers: Vec<(usize, PhysAddr)>, slot: usize) {
     with(|host| (host.buffers, host.slot) = (buffers, slot));
+}
+
+/// Start and bytes of regions one and two.
+pub fn regions() -> [(usize, usize); 2] {
+    with(|host| {
+        [0, 1].map(|which| {
+            (
+                host.memory[which].as_ptr().expose_provenance(),
+                LARGEST[which],
+            )
+        })
+    })
 }
 
 /// What each page asked for held before it was zeroed.
@@ -142,6 +156,7 @@ impl Port {
     /// Forgets an earlier queue's regions and lists.
     pub fn new(legacy: bool) -> Self {
         with(|host| (host.before, host.lists) = (Vec::new(), BTreeMap::new()));
+        crate::trace::forget_lists();
         Port {
             legacy,
             told: [0; 3],

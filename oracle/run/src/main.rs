@@ -4,12 +4,16 @@ mod calls;
 mod host;
 mod line;
 mod script;
+mod trace;
 
 use board::{Answer, Board, View, fill};
 use script::{Lent, Numbers, Op, operation};
 use std::io::{BufWriter, Read, Write, stdin, stdout};
 use std::panic::{AssertUnwindSafe, catch_unwind, set_hook};
 use std::process::exit;
+
+#[global_allocator]
+static ALLOCATOR: trace::Lists = trace::Lists;
 
 /// What an operation leads to.
 enum Said {
@@ -79,7 +83,10 @@ impl Desk {
         }
     }
 
-    fn line(&self, number: u64, answer: Answer) -> String {
+    fn line(&self, number: u64, answer: Answer, traced: bool) -> String {
+        if traced {
+            return format!("{number} {} {}{}\n", answer.0, answer.1, trace::told());
+        }
         let available = |board: &Board| {
             let told = catch_unwind(AssertUnwindSafe(|| board.queue.avail()));
             told.map_or("panic".into(), |count| count.to_string())
@@ -105,6 +112,10 @@ fn only_the_crate_may_panic() {
 /// After a panic, or what cannot be asked, operations are passed over up to the next new.
 fn main() -> std::io::Result<()> {
     only_the_crate_may_panic();
+    let traced = std::env::args().any(|word| word == "--accesses");
+    if traced {
+        trace::begin(host::regions());
+    }
     let mut text = Vec::new();
     stdin().read_to_end(&mut text)?;
     let mut numbers = Numbers::new(&text);
@@ -124,7 +135,7 @@ fn main() -> std::io::Result<()> {
         over = matches!(said, Ok(Said::Bad) | Err(_));
         match said {
             Ok(Said::Nothing) => {}
-            Ok(Said::Line(answer)) => write!(out, "{}", desk.line(number, answer))?,
+            Ok(Said::Line(answer)) => write!(out, "{}", desk.line(number, answer, traced))?,
             Ok(Said::Bad) => writeln!(out, "bad")?,
             Err(_) => writeln!(out, "{number} panic")?,
         }

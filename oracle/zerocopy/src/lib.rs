@@ -2,8 +2,9 @@
 #![no_std]
 extern crate alloc;
 
+use alloc::alloc::{Layout, alloc_zeroed};
 use alloc::boxed::Box;
-use core::{mem, slice};
+use core::{mem, ptr, slice};
 pub use zerocopy_derive::{FromBytes, Immutable, IntoBytes, KnownLayout};
 
 /// The callers unwrap an allocation's answer, so there must be an error to unwrap.
@@ -42,8 +43,16 @@ pub trait Elements {
 }
 
 impl<T: FromZeros> Elements for [T] {
+    /// Asks the allocator for zeroed memory, and stores nothing itself.
     fn zeroed(count: usize) -> Box<Self> {
-        (0..count).map(|_| T::new_zeroed()).collect()
+        let layout = Layout::array::<T>(count).expect("a layout");
+        assert_ne!(layout.size(), 0, "an empty list");
+        // SAFETY: the size is not 0, the memory is a list's of this length, and zero bytes are values of the type.
+        unsafe {
+            let start = alloc_zeroed(layout);
+            assert!(!start.is_null(), "memory");
+            Box::from_raw(ptr::slice_from_raw_parts_mut(start.cast(), count))
+        }
     }
 }
 
