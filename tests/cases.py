@@ -119,6 +119,18 @@ def histories():
     calls("chain_of_64_indirect", header(64, 1, 1), add(entries(64)), add(entries(65)), used(0), pop(0, entries(64)))
 
 
+def used_often():
+    """Used blocks that count far past the queue's size and past a byte, each with a length of its own; and an element with all bits set."""
+    one = b"1:1"
+    turns = [part for _ in range(70) for part in (add(one), pop(0, one))]
+    calls("used_300_times_and_70_turns", header(64), *(used(0, 1000 + i) for i in range(300)), *turns)
+    for count in (255, 256, 257):
+        calls(f"used_{count}_times", header(4, event=1), add(one), *(used(0, i) for i in range(count)), pop(0, one), pop(0, one))
+    calls("used_1500_times_on_size_1", header(1), *(used(0, i) for i in range(1500)), *turns[:6])
+    calls("used_at_the_top", header(4), add(one), used(TOP32 - 1, TOP32 - 1), pop(0, one), pop(65535, one), pop(TOP32 - 1, one))
+    calls("used_at_the_top_for_token_0", header(4), add(one), used(TOP32 - 65536, TOP32 - 1), pop(0, one))
+
+
 def widths():
     """Just within the width of each field, and just above."""
     for size in (1, 2, 4, 8, 16, 32, 64):
@@ -229,7 +241,7 @@ def lists_of_entries():
 
 
 def main():
-    for group in (listed_cases, refusals, histories, widths, values, keys, endings, lists_of_entries):
+    for group in (listed_cases, refusals, histories, used_often, widths, values, keys, endings, lists_of_entries):
         group()
     os.makedirs(FOLDER, exist_ok=True)
     for old in os.listdir(FOLDER):

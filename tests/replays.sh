@@ -1,6 +1,7 @@
 #!/bin/sh
 # Runs the replay program on the stored cases and compares byte for byte: sh tests/replays.sh [PROGRAM]
-# Also: the longest texts, input that comes in pieces, and ./replay as a user calls it. Needs nothing but a POSIX shell and its tools, and mktemp.
+# Also: the longest texts, input that comes in pieces, and ./replay as a user calls it, also where its output cannot be written.
+# Needs nothing but a POSIX shell and its tools, and mktemp.
 root=$(cd "$(dirname "$0")/.." && pwd) || exit 2
 program=${1:-$root/target/bin/replay_main}
 [ -x "$program" ] || {
@@ -137,6 +138,18 @@ fails() {
     count "$title" 2
 }
 
+# A command whose output cannot be written: exit code 1, and the message.
+full() {
+    title=$1
+    shift
+    : >"$folder/want"
+    : >"$folder/got"
+    echo "replay: the output could not be written" >"$folder/tell"
+    "$@" >/dev/full 2>"$folder/said"
+    code=$?
+    count "$title" 1
+}
+
 elsewhere() {
     (cd / && "$folder/user/replay" "$folder/user/a b.replay")
 }
@@ -156,6 +169,21 @@ as_a_user() {
     user_errors
 }
 
+# Nobody reads the pipe any more when the program writes, with the signal for that ignored and not.
+into_a_closed_pipe() {
+    : >"$folder/want"
+    : >"$folder/got"
+    : >"$folder/tell"
+    : >"$folder/said"
+    { sleep 1; ./replay "a b.replay" 2>/dev/null; echo $? >"$folder/code"; } | :
+    code=$(cat "$folder/code")
+    count "./replay FILE into a closed pipe" 1
+    echo "replay: the output could not be written" >"$folder/tell"
+    { trap '' PIPE; sleep 1; ./replay "a b.replay" 2>"$folder/said"; echo $? >"$folder/code"; } | :
+    code=$(cat "$folder/code")
+    count "./replay FILE into a closed pipe, the signal ignored" 1
+}
+
 user_errors() {
     : >"$folder/want"
     echo "replay: cannot read the file none.replay" >"$folder/tell"
@@ -165,6 +193,12 @@ user_errors() {
     cp "$cases/worked.expected" "$folder/want"
     echo "replay: cannot read the file none.replay" >"$folder/tell"
     fails "./replay with a missing file between two" ./replay "a b.replay" none.replay "a b.replay"
+    if [ -c /dev/full ]; then
+        full "./replay FILE to a full disk" ./replay "a b.replay"
+        full "./replay < FILE to a full disk" ./replay <"a b.replay"
+        full "./replay with two files to a full disk" ./replay "a b.replay" wrong
+    fi
+    into_a_closed_pipe
     rm target/bin/replay_main
     ln -s "$(command -v dirname)" "$folder/bin/dirname"
     : >"$folder/want"
