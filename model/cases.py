@@ -8,6 +8,9 @@ from ops import (
     CALLS, EVENT, IND, LEGACY, STEPS, TOP, USED, Now, add, bufs, calls, can_pop, complete, field, indices, lend, listed, need, new, open_add,
     open_peek, open_pop, parts, peek, poke, pop, run, should_notify, step, used,
 )
+from owned import (
+    asks, bad_owned, bad_queues, edges, good_owned, owned_busy, owned_lengths, owned_news, owned_notifying, owned_orders, owned_refusals, owned_wraps,
+)
 
 
 def worked():
@@ -346,6 +349,8 @@ def between():
 GROUPS = (
     worked, also, notifying, news, fills, fulls, orders, wraps, ids, shapes, mismatches, budgets, busy, refusals, short, garbage, between,
     bad_direct, bad_indirect, good, forged_adds, forged_stores, forged_pops,
+    asks, owned_news, edges, owned_orders, owned_lengths, owned_busy, owned_wraps, owned_notifying, owned_refusals, bad_owned, bad_queues,
+    good_owned,
 )
 
 if __name__ == "__main__":

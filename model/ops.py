@@ -8,8 +8,8 @@ NEXTS, FLAGS, NOTED = 0, 64, 128
 
 
 class Now:
-    """The size and modes of the queue at hand, and which calls come next on forged records."""
-    n = modes = turn = 0
+    """The size and modes of the queue at hand, the device's idx, the size of owned buffers, and which calls come next on forged records."""
+    n = modes = idx = size = turn = 0
 
 
 def page_up(x):
@@ -25,8 +25,14 @@ def need(n, modes):
 
 
 def new(n, modes, lent=None, show=0):
-    Now.n, Now.modes = n, modes
+    Now.n, Now.modes, Now.idx = n, modes, 0
     print("1 new", n, modes, "lent", *(lent or need(n, modes)), show)
+
+
+def ask(n, modes, in_use=0, most=64, bases=(4096, 65536, 131072), lent=None, show=0):
+    """New with all that it asks for."""
+    Now.n, Now.modes, Now.idx = n, modes, 0
+    print("25 asked", n, modes, in_use, most, *bases, "lent", *(lent or need(n, modes)), show)
 
 
 def lend(lent=None, show=0):
@@ -139,3 +145,35 @@ def half(section, i, x):
 
 def call(kind, a=0, b=0, c=0):
     print("16 call", kind, a, b, c)
+
+
+# The owning queue.
+STORE = 262144
+
+
+def own(size=4, at=STORE, more=0):
+    """An owning queue over the queue at hand, with so many bytes more of the store than it needs."""
+    Now.size = size
+    print("18 own", at, size, max(0, Now.n * (size % TOP) + more))
+
+
+poll, release, turn, own_notify, own_unwanted, own_wanted = plain(19), plain(20), plain(21), plain(22), plain(23), plain(23, 1)
+
+
+def be_own(token=-1, length=0, size=None, at=STORE):
+    """The owning record forged; token -1 is none held."""
+    print("24 owning", at, Now.size if size is None else size, token + 1, length)
+
+
+def give(token, length):
+    """A device completes a chain after those that it completed before."""
+    complete(Now.idx, token, length)
+    Now.idx = (Now.idx + 1) % 65536
+
+
+def wrote(token, number):
+    """A device stores to the start of a token's buffer."""
+    poke(3, token * Now.size, min(Now.size, 8), number)
+
+
+OWN_CALLS = (poll, release, turn, own_notify, own_unwanted, own_wanted)

@@ -8,34 +8,51 @@ lies and ends), 5 (an indirect chain notes length 1), 9 and 10 (what an open pop
 import re
 import sys
 
-from record import IDLE, INDIRECT, NEXT, ROOM, SIZES, WRAP, WRITE, Record, Region, has_empty, out_of_order
+from owning import Owning
+from record import IDLE, INDIRECT, NEXT, ROOM, SIZES, WRAP, WRITE, Record, Region, has_empty, out_of_order, placed
 
-POOL_BASE = 131072
+BASES = (4096, 65536, 131072)
+TOP = 1 << 32
 
 
 class Queue:
     """A record and the three regions; a call gives its answer, value and steps."""
 
-    def __init__(self, pool_base=POOL_BASE):
+    def __init__(self, pool_base=BASES[2]):
         self.pool_base = pool_base
+        self.addresses = 0, 0, 0
         self.rec = Record()
         self.regions = [Region(65536), Region(65536), Region(65536)]
         self.one, self.two, self.pool = self.regions
 
-    def new(self, n, indirect, event, legacy):
-        """Clears the three parts and links the table; a refused one leaves the all-zero record."""
+    def new(self, n, indirect, event, legacy, in_use=False, most=ROOM, bases=None):
+        """Clears the three parts and links the table; a refused one leaves the all-zero record. `addresses` are those of the parts."""
+        bases = bases or (*BASES[:2], self.pool_base)
+        self.addresses = 0, 0, 0
         self.rec = rec = Record()
         rec.n, rec.indirect, rec.event, rec.legacy = n, indirect, event, legacy
-        rec.base = self.pool_base if indirect else 0
-        if n not in SIZES or not self.fits():
+        rec.base = bases[2] if indirect else 0
+        no = self.new_refusal(in_use, most, bases)
+        if no:
             self.rec = Record()
-            return 13 if n in SIZES else 5, 0, 0
+            return no, 0, 0
+        self.addresses = bases[0], bases[0] + 16 * n, bases[0 if legacy else 1] + rec.used_at()
         self.one.bytes[:18 * n + 6] = bytes(18 * n + 6)
         self.used_ring().bytes[rec.used_at():rec.used_at() + 6 + 8 * n] = bytes(6 + 8 * n)
         for i in range(n - 1):
             rec.shadow[i][3] = i + 1
             self.one.store(16 * i + 14, 2, i + 1)
         return 0, 0, 0
+
+    def new_refusal(self, in_use, most, bases):
+        if self.rec.n not in SIZES:
+            return 5
+        if in_use:
+            return 6
+        if most < self.rec.n:
+            return 1
+        based = all(need == 0 or placed(base, need) for base, need in zip(bases, self.rec.needs()))
+        return 0 if based and self.fits() else 13
 
     def used_ring(self):
         return self.one if self.rec.legacy else self.two
@@ -210,7 +227,7 @@ class Queue:
         return answer, value, steps
 
     def whole(self, opened):
-        return opened if opened[0] else self.run(1 << 32)
+        return opened if opened[0] else self.run(TOP)
 
     # The calls of a single step.
     def can_pop(self):
@@ -258,6 +275,7 @@ class Script:
         self.numbers = [int(x) for x in re.findall("[0-9]+", text)]
         self.at = 0
         self.queue = Queue()
+        self.owning = Owning(self.queue)
         self.show = 0
 
     def take(self):
@@ -270,7 +288,7 @@ class Script:
         addresses, sizes, sides = ([self.take() for _ in range(count)] for count in counts)
         k = len(addresses)
         sizes, sides = (sizes + [0] * k)[:k], (sides + [0] * k)[:k]
-        return [(a, s % (1 << 32), o % 256 != 0) for a, s, o in zip(addresses, sizes, sides)]
+        return [(a, s % TOP, o % 256 != 0) for a, s, o in zip(addresses, sizes, sides)]
 
     def lend(self):
         for region in self.queue.regions:
@@ -280,24 +298,60 @@ class Script:
     def go(self):
         while self.at < len(self.numbers):
             op = self.take()
-            if 1 <= op <= 12:
+            if op in (1, 25):
+                self.line(op, self.new(op), self.queue.addresses if op == 25 else ())
+            elif 2 <= op <= 12:
                 self.line(op, self.call(op))
             elif op == 13:
-                region = self.queue.regions[min(self.take(), 2)]
-                region.poke(self.take(), self.take(), self.take())
+                regions, which = [*self.queue.regions, self.owning.store], self.take()
+                regions[which if which <= 3 else 2].poke(self.take(), self.take(), self.take())
             elif 14 <= op <= 16:
                 self.forge(op, self.take(), self.take(), self.take(), self.take())
             elif op == 17:
                 self.lend()
+            elif 18 <= op <= 23:
+                self.own(op)
+            elif op == 24:
+                base, size, token, length = self.take(), self.take() % TOP, self.take(), self.take() % TOP
+                self.owning.become(base, size, ((token - 1) % WRAP, length) if token else None)
+
+    def new(self, op):
+        """Operation 25 says all that new asks for; nothing is owned afterwards."""
+        n, modes, rest = self.take() % TOP, self.take(), ()
+        if op == 25:
+            rest = self.take() != 0, self.take() % TOP, (self.take(), self.take(), self.take())
+        self.lend()
+        for region in self.queue.regions:
+            region.set_lent(165)
+        self.owning.lend(0)
+        self.owning.become(0, 0, None)
+        return self.queue.new(n, *(modes >> i & 1 == 1 for i in range(3)), *rest)
+
+    def own(self, op):
+        """An owning call's line has at its end what is shown and held; operation 21 is a poll, a release and should_notify, and its last number."""
+        own, x = self.owning, self.take()
+        if op == 18:
+            size = self.take() % TOP
+            own.lend(self.take())
+            own.store.set_lent(165)
+            said = own.new(x, size)
+        elif op == 20:
+            said = own.release()
+        elif op == 22:
+            said = own.should_notify()
+        elif op == 23:
+            said = own.set_dev_notify(x % TOP != 0)
+        else:
+            said = own.poll()
+        tail, notify = [*(own.view or (0, 0)), mix(0, own.shown())], 0
+        if op == 21 and own.view:
+            own.release()
+            notify = own.should_notify()[1]
+        token, length = own.held or (-1, 0)
+        self.line(op, (*said, 0), [*tail, token + 1, length, *([notify] if op == 21 else [])])
 
     def call(self, op):
-        queue, x = self.queue, self.take() % (1 << 32)
-        if op == 1:
-            modes = self.take()
-            self.lend()
-            for region in queue.regions:
-                region.bytes[:region.lent] = bytes([165]) * region.lent
-            return queue.new(x, *(modes >> i & 1 == 1 for i in range(3)))
+        queue, x = self.queue, self.take() % TOP
         if op <= 5:
             buffers = self.take_list()
             opened = queue.open_add(buffers) if op <= 3 else queue.open_pop(x, buffers)
@@ -318,10 +372,10 @@ class Script:
         elif op == 15:
             self.forge_table(what, a, b)
         elif op == 16:
-            token, half, matched = a % (1 << 32), b % WRAP, b % 2 == 1
+            token, half, matched = a % TOP, b % WRAP, b % 2 == 1
             calls = (
                 IDLE, ("add", a % WRAP, half), ("pop idx", token, matched), ("pop id", token, matched),
-                ("pop len", token, matched, c % (1 << 32)), ("store", a % WRAP, half, c % (1 << 32)), ("peek idx",), ("peek id",),
+                ("pop len", token, matched, c % TOP), ("store", a % WRAP, half, c % TOP), ("peek idx",), ("peek id",),
             )
             rec.call = calls[what]
 
@@ -330,7 +384,7 @@ class Script:
         rec = self.queue.rec
         if array <= 1:
             entry = rec.shadow[place] if place < ROOM else rec.kept[place - ROOM]
-            entry[array] = x if array == 0 else x % (1 << 32)
+            entry[array] = x if array == 0 else x % TOP
         elif array == 2 and place < 2 * ROOM:
             rec.shadow[place % ROOM][3 if place < ROOM else 2] = x % WRAP
         elif array == 2:
@@ -338,7 +392,7 @@ class Script:
         else:
             rec.kept[place][2] = x % 2 == 1
 
-    def line(self, op, said):
+    def line(self, op, said, tail=()):
         rec, (one, two, pool) = self.queue.rec, self.queue.regions
         told, free = self.queue.available_desc()
         memory = mix(0, one.bytes[:one.lent] + two.bytes[:two.lent])
@@ -349,7 +403,7 @@ class Script:
             entries = rec.kept[:rec.n ** 2] if rec.n <= ROOM else []
             kept = mix(mix(0, rec.noted[:rec.n]), (x for b in entries for x in b))
             words += [said[2], told, mix(0, pool.bytes[:pool.lent]), kept]
-        print(*words)
+        print(*words, *tail)
         if self.show == 2:
             for region in self.queue.regions:
                 print(region.bytes[:region.lent].hex())

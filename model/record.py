@@ -11,12 +11,20 @@ def page_up(x):
     return (x + 4095) // 4096 * 4096
 
 
+def placed(base, need):
+    """Whether memory of this need may lie at this base: on a page, and not past 2^64."""
+    return base % 4096 == 0 and base + need <= 1 << 64
+
+
 class Region:
     """Bytes of which the first `lent` are lent to the calls."""
 
     def __init__(self, size):
         self.bytes = bytearray(size)
         self.lent = 0
+
+    def set_lent(self, number):
+        self.bytes[:self.lent] = bytes([number]) * self.lent
 
     def load(self, at, width):
         assert at + width <= self.lent
@@ -60,6 +68,13 @@ class Record:
     def heads(self):
         return [h for h in range(self.n) if self.noted[h]]
 
+    def free_list(self):
+        names, at = [], self.free_head
+        for _ in range(self.n - self.num_used):
+            names.append(at)
+            at = self.shadow[at][3]
+        return names
+
     def chain(self, head):
         """From the head along next up to the first descriptor without NEXT; none if it comes to one a second time."""
         seen = [head]
@@ -84,8 +99,7 @@ class Record:
         return all(clause() for clause in clauses)
 
     def fields_right(self):
-        end = self.base + 16 * self.n * self.n
-        base = self.base % 4096 == 0 and end <= 1 << 64 if self.indirect else self.base == 0
+        base = placed(self.base, 16 * self.n * self.n) if self.indirect else self.base == 0
         below = self.free_head < self.n and all(d[3] < self.n for d in self.shadow[:self.n])
         return self.n in SIZES and base and self.num_used <= self.n and below
 
@@ -93,10 +107,7 @@ class Record:
         """Each chain ends as noted, and the free descriptors and the chains name each one once."""
         if any(self.chain(h) is None or len(self.chain(h)) != self.noted[h] for h in self.heads()):
             return False
-        names, at = [], self.free_head
-        for _ in range(self.n - self.num_used):
-            names.append(at)
-            at = self.shadow[at][3]
+        names = self.free_list()
         for h in self.heads():
             names += self.chain(h)
         return sorted(names) == list(range(self.n))

@@ -3,15 +3,23 @@ ghost use Prim.Native.Nat.{_≤_};
 use crate::tokens::wide8;
 use print::put_number;
 use print::put_text;
+use print::write_first;
 use record::Answer;
 use record::Queue;
 
-// How much of each region is lent, and what lines show: 0 all, 1 what the crate too can tell, 2 that and the bytes.
+// How much of each region and of the store is lent, and what lines show: 0 all, 1 what the crate too can tell, 2 that and the bytes.
 pub struct Lent {
     pub one: usize,
     pub two: usize,
     pub pool: usize,
+    pub store: usize,
     pub show: u64,
+}
+
+// The numbers that only some operations have, at the end of their lines.
+pub struct Tail {
+    pub count: usize,
+    pub numbers: [u64; 6],
 }
 
 // The sums of a line: of regions one and two, the shadow table, the live lists, the pool, and the rest of the tables.
@@ -41,7 +49,7 @@ fn mixed(total: u64, x: u64) -> u64 {
 }
 
 // The sum goes on over `count` bytes from `from` on, as far as there are.
-fn sum_bytes(start: u64, s: &[u8], from: usize, count: usize) -> u64 {
+pub fn sum_bytes(start: u64, s: &[u8], from: usize, count: usize) -> u64 {
     let mut total = start;
     let mut left = count;
     let mut i = from;
@@ -173,8 +181,8 @@ fn dump(s: &[u8], count: usize) {
     io::write_all(1, b"\n");
 }
 
-// Puts the first `count` numbers at the start of out, with spaces between them, and answers where they end.
-fn put_numbers(out: &mut [u8; 400], numbers: &[u64; 15], count: usize) -> usize {
+// Puts the numbers at the start of out, with spaces between them, and answers where they end.
+fn put_numbers(out: &mut [u8; 500], numbers: &[u64; 15], count: usize) -> usize {
     let mut p: usize = 0;
     let mut i: usize = 0;
     while i < 15 {
@@ -190,28 +198,47 @@ fn put_numbers(out: &mut [u8; 400], numbers: &[u64; 15], count: usize) -> usize 
     p
 }
 
-fn write_first(s: &[u8], count: usize) {
-    if count <= s.len() {
-        io::write_all(1, &s[..count]);
+// Puts the tail's numbers behind them.
+fn put_tail(out: &mut [u8; 500], at: usize, numbers: &[u64; 6], count: usize) -> usize {
+    let mut p = at;
+    let mut i: usize = 0;
+    while i < 6 {
+        if count <= i {
+            break;
+        }
+        p = put_text(out, p, b" ");
+        p = put_number(out, p, numbers[i]);
+        i += 1;
     }
+    p
 }
 
 // Ends the line at p, and writes it in one go.
-fn write_line(out: &mut [u8; 400], p: usize) {
+fn write_line(out: &mut [u8; 500], p: usize) {
     let end = put_text(out, p, b"\n");
     write_first(out, end);
 }
 
-// Writes the first `count` numbers as a line: 15 of them have at most 315 bytes.
-fn print_numbers(numbers: &[u64; 15], count: usize) {
-    let mut space = [0u8; 400];
+// Writes the first `count` numbers and the tail as a line: 21 numbers have at most 441 bytes.
+fn print_numbers(numbers: &[u64; 15], count: usize, tail: Tail) {
+    let mut space = [0u8; 500];
+    let more = tail.numbers;
     let p = put_numbers(&mut space, numbers, count);
-    write_line(&mut space, p);
+    let q = put_tail(&mut space, p, &more, tail.count);
+    write_line(&mut space, q);
+}
+
+// The tail of an operation that has none.
+pub fn no_tail() -> Tail {
+    Tail {
+        count: 0,
+        numbers: [0; 6],
+    }
 }
 
 // The line of an answer: the operation, answer and value, the record's plain numbers, what available_desc says, and the sums. The last four
-// numbers are those that the crate can't tell.
-pub fn line(op: u64, r: Answer, lent: Lent, one: &[u8], two: &[u8], pool: &[u8]) {
+// numbers before the tail are those that the crate can't tell.
+pub fn line(op: u64, r: Answer, tail: Tail, lent: Lent, one: &[u8], two: &[u8], pool: &[u8]) {
     let queue = r.queue;
     let core = queue.core;
     let told = queue.available_desc();
@@ -233,7 +260,7 @@ pub fn line(op: u64, r: Answer, lent: Lent, one: &[u8], two: &[u8], pool: &[u8])
         s.pool,
         s.kept,
     ];
-    print_numbers(&numbers, shown(lent.show));
+    print_numbers(&numbers, shown(lent.show), tail);
     if lent.show == 2 {
         dump(one, lent.one);
         dump(two, lent.two);
@@ -241,7 +268,7 @@ pub fn line(op: u64, r: Answer, lent: Lent, one: &[u8], two: &[u8], pool: &[u8])
     }
 }
 
-// How many numbers a line has.
+// How many numbers a line has before its tail.
 fn shown(show: u64) -> usize {
     if show == 0 { 15 } else { 11 }
 }

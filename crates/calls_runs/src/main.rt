@@ -5,9 +5,10 @@ ghost use mathlib.Core.Path.{_≡_};
 
 mod forge;
 mod lines;
+mod news;
+mod own_turns;
 mod tokens;
 
-use crate::forge::bits;
 use crate::forge::open_call;
 use crate::forge::with_call;
 use crate::forge::with_core;
@@ -15,16 +16,21 @@ use crate::forge::with_field;
 use crate::forge::with_word;
 use crate::lines::Lent;
 use crate::lines::line;
+use crate::lines::no_tail;
+use crate::news::anew;
+use crate::own_turns::own_forge_turn;
+use crate::own_turns::own_new_turn;
+use crate::own_turns::own_turn;
 use crate::tokens::capped;
 use crate::tokens::number;
 use crate::tokens::read_list;
+use owning::Owning;
 use record::Answer;
-use record::Ask;
 use record::Queue;
 
-// The record, where the script stands, and what is lent and shown.
+// The owning record, whose queue the plain calls use, where the script stands, and what is lent and shown.
 struct Machine {
-    queue: Queue,
+    owning: Owning,
     at: usize,
     lent: Lent,
 }
@@ -96,8 +102,8 @@ fn plain_call(op: u64, x: u32, q: Queue, one: &mut [u8], two: &[u8], pool: &mut 
     }
 }
 
-// The lengths of what is lent, and what is shown.
-fn read_lent(src: &[u8], at: usize) -> Told {
+// The lengths of what is lent, and what is shown; the store's length is told beside them.
+fn read_lent(src: &[u8], at: usize, store: usize) -> Told {
     let a = number(src, at);
     let b = number(src, a.at);
     let c = number(src, b.at);
@@ -106,59 +112,24 @@ fn read_lent(src: &[u8], at: usize) -> Told {
         one: capped(a.value, 65536),
         two: capped(b.value, 65536),
         pool: capped(c.value, 65536),
+        store,
         show: d.value,
     };
     Told { lent, at: d.at }
 }
 
-// Operation 1: every lent byte 165, and then a fresh queue.
-fn anew(
-    src: &[u8],
-    at: usize,
-    one: &mut [u8; 65536],
-    two: &mut [u8; 65536],
-    pool: &mut [u8; 65536],
-) -> Machine {
-    let n = number(src, at);
-    let x = number(src, n.at);
-    let t = read_lent(src, x.at);
-    let lent = t.lent;
-    fill(one, lent.one, 165);
-    fill(two, lent.two, 165);
-    fill(pool, lent.pool, 165);
-    let modes = bits(x.value);
-    let ask = Ask {
-        n: (n.value % 4294967296) as u32,
-        in_use: false,
-        most: 64,
-        modes,
-        base_one: 4096,
-        base_two: 65536,
-        base_pool: 131072,
-    };
-    let queue = make(ask, lent, one, two, pool);
-    Machine {
+// The same with another queue, and the script at another place.
+fn with_queue(m: Machine, queue: Queue, at: usize) -> Machine {
+    let lent = m.lent;
+    let o = m.owning;
+    let held = o.held;
+    let owning = Owning {
         queue,
-        at: t.at,
-        lent,
-    }
-}
-
-// A fresh queue over memory of the lengths told.
-fn make(ask: Ask, lent: Lent, one: &mut [u8], two: &mut [u8], pool: &[u8]) -> Queue {
-    let a = capped(lent.one as u64, one.len());
-    let b = capped(lent.two as u64, two.len());
-    let c = capped(lent.pool as u64, pool.len());
-    let made = Queue::new(ask, &mut one[..a], &mut two[..b], &pool[..c]);
-    let queue = made.queue;
-    let r = Answer {
-        answer: made.answer,
-        value: 0,
-        steps: 0,
-        queue,
+        base: o.base,
+        size: o.size,
+        held,
     };
-    line(1, r, lent, one, two, pool);
-    queue
+    Machine { owning, at, lent }
 }
 
 // Operations 2 to 5: a token, a list, and the call.
@@ -186,7 +157,7 @@ fn list_turn(
     let r = list_call(
         op,
         (x.value % 4294967296) as u32,
-        m.queue,
+        m.owning.queue,
         &addrs[..i],
         &sizes[..j],
         &outs[..k],
@@ -194,13 +165,8 @@ fn list_turn(
         &two[..b],
         &mut pool[..c],
     );
-    line(op, r, lent, one, two, pool);
-    let queue = r.queue;
-    Machine {
-        queue,
-        at: l.at,
-        lent,
-    }
+    line(op, r, no_tail(), lent, one, two, pool);
+    with_queue(m, r.queue, l.at)
 }
 
 // Operations 6 to 12: a number, and the call.
@@ -221,25 +187,20 @@ fn plain_turn(
     let r = plain_call(
         op,
         (x.value % 4294967296) as u32,
-        m.queue,
+        m.owning.queue,
         &mut one[..a],
         &two[..b],
         &mut pool[..c],
     );
-    line(op, r, lent, one, two, pool);
-    let queue = r.queue;
-    Machine {
-        queue,
-        at: x.at,
-        lent,
-    }
+    line(op, r, no_tail(), lent, one, two, pool);
+    with_queue(m, r.queue, x.at)
 }
 
 // The same, with the script at another place.
 fn moved(m: Machine, at: usize) -> Machine {
-    let queue = m.queue;
+    let owning = m.owning;
     let lent = m.lent;
-    Machine { queue, at, lent }
+    Machine { owning, at, lent }
 }
 
 // Operation 13: bytes stored to a region, as told by region, offset, width and number.
@@ -249,6 +210,7 @@ fn poke_turn(
     one: &mut [u8; 65536],
     two: &mut [u8; 65536],
     pool: &mut [u8; 65536],
+    store: &mut [u8; 65536],
 ) -> usize {
     let region = number(src, at);
     let a = number(src, region.at);
@@ -260,6 +222,7 @@ fn poke_turn(
     match into {
         0 => poke(one, offset, width, v.value),
         1 => poke(two, offset, width, v.value),
+        3 => poke(store, offset, width, v.value),
         _ => poke(pool, offset, width, v.value),
     }
     v.at
@@ -271,9 +234,8 @@ fn forge_turn(op: u64, src: &[u8], at: usize, m: Machine) -> Machine {
     let a = number(src, x.at);
     let b = number(src, a.at);
     let c = number(src, b.at);
-    let q = m.queue;
+    let q = m.owning.queue;
     let core = q.core;
-    let lent = m.lent;
     let queue = match op {
         15 => with_word(q, x.value, capped(a.value, 65536), b.value),
         16 => with_core(
@@ -282,20 +244,17 @@ fn forge_turn(op: u64, src: &[u8], at: usize, m: Machine) -> Machine {
         ),
         _ => with_core(q, with_field(core, x.value, a.value, b.value)),
     };
-    Machine {
-        queue,
-        at: c.at,
-        lent,
-    }
+    with_queue(m, queue, c.at)
 }
 
 // Operation 17: other lengths are lent, or other things shown.
 fn lent_turn(src: &[u8], at: usize, m: Machine) -> Machine {
-    let queue = m.queue;
-    let t = read_lent(src, at);
+    let owning = m.owning;
+    let before = m.lent;
+    let t = read_lent(src, at, before.store);
     let lent = t.lent;
     Machine {
-        queue,
+        owning,
         at: t.at,
         lent,
     }
@@ -308,30 +267,40 @@ fn turn(
     one: &mut [u8; 65536],
     two: &mut [u8; 65536],
     pool: &mut [u8; 65536],
+    store: &mut [u8; 65536],
 ) -> Machine {
     let t = number(src, m.at);
     let op = t.value;
     match op {
-        1 => anew(src, t.at, one, two, pool),
+        1 | 25 => anew(op, src, t.at, one, two, pool),
         2..=5 => list_turn(op, src, t.at, m, one, two, pool),
         6..=12 => plain_turn(op, src, t.at, m, one, two, pool),
-        13 => moved(m, poke_turn(src, t.at, one, two, pool)),
+        13 => moved(m, poke_turn(src, t.at, one, two, pool, store)),
         14..=16 => forge_turn(op, src, t.at, m),
         17 => lent_turn(src, t.at, m),
+        18 => own_new_turn(src, t.at, m, one, two, pool, store),
+        19..=23 => own_turn(op, src, t.at, m, one, two, pool, store),
+        24 => own_forge_turn(src, t.at, m),
         _ => moved(m, t.at),
     }
 }
 
-// The whole script, which starts with an operation 1: at most as many operations as it has bytes.
-fn script(src: &[u8], one: &mut [u8; 65536], two: &mut [u8; 65536], pool: &mut [u8; 65536]) {
+// The whole script, which starts with an operation 1 or 25: at most as many operations as it has bytes.
+fn script(
+    src: &[u8],
+    one: &mut [u8; 65536],
+    two: &mut [u8; 65536],
+    pool: &mut [u8; 65536],
+    store: &mut [u8; 65536],
+) {
     let first = number(src, 0);
-    let mut m = anew(src, first.at, one, two, pool);
+    let mut m = anew(first.value, src, first.at, one, two, pool);
     let mut left = src.len();
     while 0 < left {
         if src.len() <= m.at {
             break;
         }
-        m = turn(src, m, one, two, pool);
+        m = turn(src, m, one, two, pool, store);
         left -= 1;
     }
 }
@@ -349,6 +318,7 @@ fn main() {
     let mut one = io::large_buffer();
     let mut two = io::large_buffer();
     let mut pool = io::large_buffer();
+    let mut store = io::large_buffer();
     let got = io::read_full(0, &mut src);
-    script(&src[..got], &mut one, &mut two, &mut pool);
+    script(&src[..got], &mut one, &mut two, &mut pool, &mut store);
 }

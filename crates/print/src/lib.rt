@@ -1,4 +1,4 @@
-// Writes text to lent bytes, as far as there is room: words, numbers, lines, and the five lines of a call.
+// Writes text to lent bytes, as far as there is room: words, numbers, lines, and the five lines of a call; and what was written to standard output.
 ghost use Prim.Native.Nat.{ℕ};
 ghost use mathlib.Core.List.{List, [], _∷_, _++_};
 ghost use Rattle.print.specs.Words.{word-answer, word-value, word-steps, word-free};
@@ -77,4 +77,11 @@ pub fn put_report(
     p = put_field(out, p, b"value=", value as u64);
     p = put_field(out, p, b"steps=", steps as u64);
     put_field(out, p, b"free=", free as u64)
+}
+
+// Writes the first `count` bytes to standard output, and nothing where there are fewer.
+pub fn write_first(s: &[u8], count: usize) {
+    if count <= s.len() {
+        io::write_all(1, &s[..count]);
+    }
 }

@@ -59,8 +59,14 @@ slice-aggregate-list-call-6 c = sym (length-take-le _ _ (search needs))
 list-call-requires : tie.Need-list-call-requires
 list-call-requires c κs = search needs
 
+no-tail-requires : tie.Need-no-tail-requires
+no-tail-requires c κs = search needs
+
 line-requires : tie.Need-line-requires
 line-requires c κs = search needs
+
+with-queue-requires : tie.Need-with-queue-requires
+with-queue-requires c κs = search needs
 
 same-length : tie.Need-same-length
 same-length c = search needs
@@ -93,7 +99,9 @@ list-turn-spec =
     slice-relend-prefix-list-call-2
     slice-aggregate-list-call-6
     list-call-requires
+    no-tail-requires
     line-requires
+    with-queue-requires
     same-length
     same-length-2
     returns)

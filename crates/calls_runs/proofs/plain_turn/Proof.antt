@@ -38,8 +38,14 @@ slice-aggregate-plain-call-3 c = sym (length-take-le _ _ (search needs))
 plain-call-requires : tie.Need-plain-call-requires
 plain-call-requires c κs = search needs
 
+no-tail-requires : tie.Need-no-tail-requires
+no-tail-requires c κs = search needs
+
 line-requires : tie.Need-line-requires
 line-requires c κs = search needs
+
+with-queue-requires : tie.Need-with-queue-requires
+with-queue-requires c κs = search needs
 
 same-length : tie.Need-same-length
 same-length c = search needs
@@ -65,7 +71,9 @@ plain-turn-spec =
     slice-relend-prefix-plain-call-2
     slice-aggregate-plain-call-3
     plain-call-requires
+    no-tail-requires
     line-requires
+    with-queue-requires
     same-length
     same-length-2
     returns)

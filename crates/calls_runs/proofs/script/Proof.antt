@@ -4,10 +4,10 @@ use Rattle.calls_runs.proofs.script.Statement.{statement}
 use Rattle.calls_runs.proofs.script.Tie as tie
 
 abbrev Inv-loop : tie.InvT-loop
-Inv-loop src one₀ two₀ pool₀ m₀ left₀ one two pool m left = Unit {0}
+Inv-loop src one₀ two₀ pool₀ store₀ m₀ left₀ one two pool store m left = Unit {0}
 
 abbrev μ-loop : tie.MeasureT-loop
-μ-loop src one₀ two₀ pool₀ m₀ left₀ one two pool m left = left
+μ-loop src one₀ two₀ pool₀ store₀ m₀ left₀ one two pool store m left = left
 
 number-requires : tie.Need-number-requires Inv-loop μ-loop
 number-requires c κs = search needs

@@ -1,9 +1,9 @@
--- `calls_runs::make` is safe: the lengths lent are within the regions. Assumes nothing.
+-- `calls_runs::news::make` is safe: the lengths lent are within the regions. Assumes nothing.
 use mathlib.Core.Path.{sym}
 use lib.Seq.{length-take-le}
 use borrow.Author.Needs.{needs}
-use Rattle.calls_runs.proofs.make.Statement.{statement}
-use Rattle.calls_runs.proofs.make.Tie as tie
+use Rattle.calls_runs.proofs.news.make.Statement.{statement}
+use Rattle.calls_runs.proofs.news.make.Tie as tie
 
 capped-requires : tie.Need-capped-requires
 capped-requires c κs = search needs
@@ -32,6 +32,9 @@ slice-aggregate-new-3 c = sym (length-take-le _ _ (search needs))
 new-requires : tie.Need-new-requires
 new-requires c κs = search needs
 
+addresses-requires : tie.Need-addresses-requires
+addresses-requires c κs = search needs
+
 line-requires : tie.Need-line-requires
 line-requires c κs = search needs
 
@@ -57,6 +60,7 @@ make-spec =
     slice-aggregate-new-2
     slice-aggregate-new-3
     new-requires
+    addresses-requires
     line-requires
     same-length
     same-length-2

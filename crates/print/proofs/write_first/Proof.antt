@@ -1,9 +1,9 @@
--- `calls_runs::lines::write_first` is safe and ends. Assumes nothing.
+-- `print::write_first` is safe and ends. Assumes nothing.
 use mathlib.Core.Path.{sym}
 use lib.Seq.{length-take-le}
 use borrow.Author.Needs.{needs}
-use Rattle.calls_runs.proofs.lines.write_first.Statement.{statement}
-use Rattle.calls_runs.proofs.lines.write_first.Tie as tie
+use Rattle.print.proofs.write_first.Statement.{statement}
+use Rattle.print.proofs.write_first.Tie as tie
 
 slice-aggregate-write-all : tie.Need-slice-aggregate-write-all
 slice-aggregate-write-all c = sym (length-take-le _ _ (search needs))
