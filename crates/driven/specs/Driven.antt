@@ -3,7 +3,7 @@
 use mathlib.Core.Path.{_≡_, refl, sym, ap, _∙_}
 use mathlib.Core.Bool.{Bool, true, false, cond}
 use mathlib.Core.List.{List, [], _∷_, _++_}
-use Prim.Native.Nat.{ℕ}
+use Prim.Native.Nat.{ℕ, _+_}
 use borrow.Author.Tests.{eq-eqb, ne-eqb}
 use lib.Dec.{eqb}
 use Rattle.virtio.specs.Memory.{Memory}
@@ -22,11 +22,12 @@ use Rattle.mixing.specs.Mix as mix
 use Rattle.mixing.specs.Demand.{Whole, inTurn, start, wiring}
 use Rattle.mixing.specs.Proof.{demand3}
 
--- A run of the code: the struct, the bytes, the device; and what each side did and got so far, as in a trace.
+-- A run of the code: the struct, the bytes, the device; and what each side did and got so far, with the steps of the call opened last, as in a trace.
 pub record State : Type 0 where
   pub queue : Queue
   pub memory : Memory
   pub device : Device
+  pub made : ℕ
   pub calls : List mix.Call
   pub answers : List mix.Answer
   pub acts : List Act
@@ -37,20 +38,26 @@ traceOf s = record {
   queue = abs (s .queue);
   memory = s .memory;
   device = s .device;
+  made = s .made;
   calls = s .calls;
   answers = s .answers;
   acts = s .acts;
   results = s .results;
 }
 
--- after a driver's event that answered r over the bytes m: an answer is noted once no call is open
-abbrev pub drove : List mix.Call → Answer → Memory → State → State
-drove cs r m s = record {
+-- an answer is noted once no call is open, with the steps that its call made
+abbrev pub answersOf : ℕ → Answer → List mix.Answer
+answersOf k r = cond (isOpen (r .queue .core .call)) [] (record { number = r .answer; value = r .value; steps = k } ∷ [])
+
+-- after a driver's event that answered r over the bytes m, with k steps of its call made
+abbrev pub drove : List mix.Call → ℕ → Answer → Memory → State → State
+drove cs k r m s = record {
   queue = r .queue;
   memory = m;
   device = s .device;
+  made = k;
   calls = s .calls ++ cs;
-  answers = s .answers ++ mix.answersOf (answerOf r m);
+  answers = s .answers ++ answersOf k r;
   acts = s .acts;
   results = s .results;
 }
@@ -60,19 +67,21 @@ worked began w s = record {
   queue = s .queue;
   memory = w .memory;
   device = w .device;
+  made = s .made;
   calls = s .calls;
   answers = s .answers;
   acts = s .acts ++ began;
   results = s .results ++ mix.resultsOf (w .done);
 }
 
--- One event in code. The driver's are whatever answer and bytes the contract of `driven::open`, and of the method `step`, permits.
+-- One event in code. The driver's are whatever answer and bytes the contract of `driven::open`, and of the method `step`, permits; the steps are those
+-- that the opening and each step report.
 pub data Makes (w : Wiring) (s : State) : mix.Event → State → Type 0 where
   opened : (c : mix.Call) (r : Answer) (m : Memory) → answerOf r m ≡ mix.opening c (abs (s .queue)) (s .memory) → (r .answer ≡ Busy → ⊥)
-      → Makes w s (mix.call c) (drove (c ∷ []) r m s)
+      → Makes w s (mix.call c) (drove (c ∷ []) (r .steps) r m s)
   busy : (c : mix.Call) (r : Answer) (m : Memory) → answerOf r m ≡ mix.opening c (abs (s .queue)) (s .memory) → r .answer ≡ Busy → Makes w s (mix.call c) s
   stepped : (r : Answer) (m : Memory) → answerOf r m ≡ rules.step (abs (s .queue)) (s .memory) → isOpen (s .queue .core .call) ≡ true
-      → Makes w s mix.step (drove [] r m s)
+      → Makes w s mix.step (drove [] (s .made + r .steps) r m s)
   idle : isOpen (s .queue .core .call) ≡ false → Makes w s mix.step s
   acted : (a : Act) → acting (s .device .doing) ≡ false → Makes w s (mix.act a) (worked (a ∷ []) (begin w a (s .device) (s .memory)) s)
   occupied : (a : Act) → acting (s .device .doing) ≡ true → Makes w s (mix.act a) s
@@ -103,7 +112,7 @@ makes-event w s _ _ (busy c r m e z) =
     let o : Outcome = mix.opening c (abs (s .queue)) (s .memory) in
     sym (chosen (eqb (o .answer) Busy) (traceOf s) (mix.drives (c ∷ []) o (traceOf s)) (eq-eqb (o .answer) Busy (sym (ap (λ (x : Outcome). x .answer) e) ∙ z)))
 makes-event w s _ _ (stepped r m e o) =
-    ap (λ x. mix.drives [] x (traceOf s)) e ∙ sym (chosen (isOpen (s .queue .core .call)) _ _ o)
+    ap (λ x. mix.drives [] (mix.further (s .made) x) (traceOf s)) e ∙ sym (chosen (isOpen (s .queue .core .call)) _ _ o)
 makes-event w s _ _ (idle o) = sym (passed-over (isOpen (s .queue .core .call)) _ _ o)
 makes-event w s _ _ (acted a o) = sym (passed-over (acting (s .device .doing)) _ _ o)
 makes-event w s _ _ (occupied a o) = sym (chosen (acting (s .device .doing)) _ _ o)
@@ -124,6 +133,7 @@ begun r m = record {
   queue = r .queue;
   memory = m;
   device = freshDevice;
+  made = 0;
   calls = [];
   answers = [];
   acts = [];

@@ -93,7 +93,7 @@ module _ (q : Queue) (bs : List Buffer) (s : Held q) (w : WellFormed q) (a : Add
   next-at : (i : ℕ) → nextOf r i ≡ nextOf q i
   next-at i = fill-links next (q .tables .shadow) head bs (λ j. refl) i
 
-  nexts : nextOf r ≡ nextOf q
+  pub nexts : nextOf (addDirect q bs) ≡ nextOf q
   nexts = fun-ext next-at
 
   next-below : (i : ℕ) → i < q .n → nextOf r i < q .n
@@ -102,7 +102,7 @@ module _ (q : Queue) (bs : List Buffer) (s : Held q) (w : WellFormed q) (a : Add
       let b : nextOf q i < q .n = w .nexts i l in
       omega arith
 
-  noted-new : notedOf r head ≡ k
+  pub noted-new : notedOf (addDirect q bs) (q .counts .free) ≡ length bs
   noted-new =
       getD-set-same (q .tables .noted) head k 0 (let b : head < q .n = w .free in let f : q .n ≤ length (q .tables .noted) = s .noted in omega arith)
 
@@ -142,6 +142,9 @@ module _ (q : Queue) (bs : List Buffer) (s : Held q) (w : WellFormed q) (a : Add
   free-count : (i : ℕ) → count i (freeList q) ≡ count i taken + count i rest
   free-count i = ap (count i) free-split ∙ count-append i taken rest
 
+  pub taken-free : (i : ℕ) → count i (walk (nextOf q) (length bs) (q .counts .free)) ≤ count i (freeList q)
+  taken-free i = let e : count i (freeList q) ≡ count i taken + count i rest = free-count i in omega arith
+
   all-count : (i : ℕ) → i < q .n → count i taken + count i rest + chained i ≡ 1
   all-count i l =
       let e : count i (named q) ≡ 1 = w .once .each i l in
@@ -173,7 +176,9 @@ module _ (q : Queue) (bs : List Buffer) (s : Held q) (w : WellFormed q) (a : Add
 
   -- ---- what the descriptors say
 
-  desc-new : (j : ℕ) → j < k → descOf r (hop next j head) ≡ filled (getD bs j noBuffer) (more? (drop (suc j) bs)) (next (hop next j head))
+  pub desc-new : (j : ℕ) → j < length bs
+      → descOf (addDirect q bs) (hop (nextOf q) j (q .counts .free))
+      ≡ filled (getD bs j noBuffer) (more? (drop (suc j) bs)) (nextOf q (hop (nextOf q) j (q .counts .free)))
   desc-new =
       fill-at next (q .n) (q .tables .shadow) head bs (s .shadow) (λ j. refl) (walk-below next (q .n) (w .nexts) k head (w .free))
       (λ i l. let e = all-count i l in omega arith)

@@ -214,14 +214,14 @@ access-wide q PeekId = tt
 
 module _ (q : Queue) (w : WellFormed q) where
   -- an indirect head is all of its chain
-  one-noted : (h : ℕ) → Out q h → isIndirect q h ≡ true → notedOf q h ≡ 1
+  pub one-noted : (h : ℕ) → Out q h → isIndirect q h ≡ true → notedOf q h ≡ 1
   unfolding hop
   one-noted h o e =
       by-eq (notedOf q h) 1 (λ f. f)
       (λ f. let n : (notedOf q h ≡ 0 → ⊥) = o .noted in
       absurd (true≢false (sym (w .goes-on h 0 o (omega arith)) ∙ ap (λ x. eqb (x % 2) 1) (w .listed h o e .flags))))
 
-  last-head : (h : ℕ) → Out q h → isIndirect q h ≡ true → lastOf q h ≡ h
+  pub last-head : (h : ℕ) → Out q h → isIndirect q h ≡ true → lastOf q h ≡ h
   unfolding hop
   last-head h o e = ap (λ k. hop (nextOf q) (k - 1) h) (one-noted h o e)
 

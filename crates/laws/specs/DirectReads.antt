@@ -32,11 +32,11 @@ use Rattle.laws.specs.StepKeeps.{power-most}
 use Rattle.laws.specs.CallKeeps.{Good}
 use Rattle.laws.specs.Added.{stored, published}
 use Rattle.laws.specs.Stored.{puts, puts-length, puts-at, rings-desc}
-use Rattle.laws.specs.Followed.{Holds, table-reads}
+use Rattle.laws.specs.Followed.{Holds, Plain, table-reads, table-plain}
 use Rattle.laws.specs.Reads.{AllNarrow, Reads, filled-on, filled-fit, next-fit, ring-reads}
 
 -- numbers along a walk that names none twice are different
-hops-apart : (next : ℕ → ℕ) (k h i j : ℕ) → i < j → j < k → count (hop next j h) (walk next k h) ≤ 1 → hop next i h ≡ hop next j h → ⊥
+pub hops-apart : (next : ℕ → ℕ) (k h i j : ℕ) → i < j → j < k → count (hop next j h) (walk next k h) ≤ 1 → hop next i h ≡ hop next j h → ⊥
 hops-apart next k h i j l u c e =
     let x : ℕ = hop next j h in
     let s : k ≡ suc j + (k - suc j) = omega arith in
@@ -190,3 +190,7 @@ module _ (q : Queue) (m : Memory) (bs : List Buffer) (g : Good q) (a : Addable q
       let c : q .n ≤ 64 = small in
       ring-reads (q .modes .legacy) (q .n) (q .base) M last (q .counts .avail) head bs refl (omega arith) (omega arith) (omega arith)
       (table-reads (q .n) (q .base) M head bs (a .some) (a .most) (a .order) next (λ j l. low j) table-holds)
+
+  -- and its descriptors refer to no table
+  pub direct-stands : Plain (q .n) (published (addDirect q bs) (q .counts .free) (length bs) m) (q .counts .free)
+  direct-stands = table-plain (q .n) (q .base) M head bs (a .some) (a .most) (a .order) next (λ j l. low j) table-holds

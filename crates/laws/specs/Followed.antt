@@ -90,6 +90,13 @@ meant-list n ds bs e l o =
 abbrev pub listAt : ℕ → ℕ → ℕ → ℕ → Desc
 listAt base slot k x = record { addr = base + 16 * slot; len = 16 * k; flags = 4; next = x }
 
+-- a chain whose descriptors refer to no table; a head that alone refers to a table, which starts at an entry of the pool
+abbrev pub Plain : ℕ → Memory → ℕ → Type 0
+Plain n m h = (ds : List Desc) × (follow (tableDesc m) n n h ≡ found ds) × (noIndirect ds ≡ true)
+
+abbrev pub Listed : ℕ → ℕ → Memory → ℕ → Type 0
+Listed n base m h = (slot : ℕ) × (k : ℕ) × (x : ℕ) × (follow (tableDesc m) n n h ≡ found (listAt base slot k x ∷ []))
+
 -- in such a table each entry leads to the one after it
 pub hop-up : (j i : ℕ) → hop (λ x. x + 1) j i ≡ i + j
 unfolding hop
@@ -135,3 +142,22 @@ module _ (n base : ℕ) (m : Memory) (h : ℕ) (bs : List Buffer) (some : 0 < le
       ∙ ap (λ d. meant n (expand base m (d ∷ []))) e
       ∙ ap (meant n) (list-found base m slot x bs some r t)
       ∙ meant-list n (entries table (λ i. i + 1) 0 bs) bs (holds-buffers table (λ i. i + 1) 0 bs t) most order
+
+  -- ---- how the descriptors stand in the table
+
+  -- such a table's refer to no other table, and such a head stands alone
+  pub table-plain : (next : ℕ → ℕ) → ((j : ℕ) → j < length bs → hop next j h < n) → Holds (tableDesc m) next h bs → Plain n m h
+  table-plain next u t =
+      (entries (tableDesc m) next h bs, followed (tableDesc m) next n n h bs u some most t, holds-direct (tableDesc m) next h bs t)
+
+  pub list-listed : (slot x : ℕ) → h < n → tableDesc m h ≡ listAt base slot (length bs) x → Listed n base m h
+  list-listed slot x u e =
+      (slot, length bs, x, follow-one (tableDesc m) n n h u (omega arith) (ap hasNext e) ∙ ap (λ d. found (d ∷ [])) e)
+
+-- THE LAW: where they refer to no table, what the chain means does not depend on where the pool lies
+pub plain-anywhere : (n base other : ℕ) (m : Memory) (h : ℕ) → Plain n m h → chainAt n base m h ≡ chainAt n other m h
+unfolding chainAt
+plain-anywhere n base other m h p =
+    ap (λ f. meant n (expanded base m f)) (p .1)
+    ∙ ap (meant n) (expand-direct base m (p .0) (p .2) ∙ sym (expand-direct other m (p .0) (p .2)))
+    ∙ ap (λ f. meant n (expanded other m f)) (sym (p .1))

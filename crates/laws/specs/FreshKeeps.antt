@@ -68,7 +68,7 @@ module _ (a : Ask) where
   none-out : (h : ℕ) → Out q h → ⊥
   none-out h o = o .noted (none-noted h)
 
-  none-outstanding : (h : ℕ) → outstanding q h ≡ false
+  pub none-outstanding : (h : ℕ) → outstanding (freshQueue a) h ≡ false
   none-outstanding h = ap (λ k. ltb h (a .n) && not (eqb k 0)) (none-noted h) ∙ and-false (ltb h (a .n))
 
   -- each descriptor links to the one after it, and all to one that is there

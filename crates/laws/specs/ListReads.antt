@@ -31,7 +31,7 @@ use Rattle.laws.specs.StepKeeps.{power-most}
 use Rattle.laws.specs.CallKeeps.{Good}
 use Rattle.laws.specs.Added.{stored, published}
 use Rattle.laws.specs.Stored.{puts, puts-length, puts-at, rings-desc}
-use Rattle.laws.specs.Followed.{Holds, hop-up, listAt, list-reads}
+use Rattle.laws.specs.Followed.{Holds, hop-up, listAt, Listed, list-reads, list-listed}
 use Rattle.laws.specs.Reads.{AllNarrow, Reads, filled-fit, ring-reads}
 
 module _ (q : Queue) (m : Memory) (bs : List Buffer) (g : Good q) (a : Addable q bs) (i : q .modes .indirect ≡ true)
@@ -170,3 +170,7 @@ module _ (q : Queue) (m : Memory) (bs : List Buffer) (g : Good q) (a : Addable q
       let x : slot + k ≤ q .n * q .n = slot-room in
       ring-reads (q .modes .legacy) (q .n) (q .base) M last (q .counts .avail) head bs refl (omega arith) (omega arith) (omega arith)
       (list-reads (q .n) (q .base) M head bs (a .some) (a .most) (a .order) slot (nextOf q head) b head-stored (omega arith) slot-holds)
+
+  -- and its head's descriptor stands alone
+  pub list-stands : Listed (q .n) (q .base) (published (addIndirect q bs) (q .counts .free) (length bs) m) (q .counts .free)
+  list-stands = list-listed (q .n) (q .base) M head bs (a .some) (a .most) (a .order) slot (nextOf q head) (g .well .free) head-stored

@@ -1,6 +1,7 @@
 -- What an add publishes, as VIRTIO reads it: the available ring's idx counts on, its slot names the head, and the chain at the head means the list given.
 use mathlib.Core.Path.{_≡_, sym, subst}
 use mathlib.Core.Bool.{Bool, true, not, _&&_, _||_}
+use mathlib.Core.Logic.{_⊎_, inl, inr}
 use mathlib.Core.List.{List}
 use Prim.Native.Nat.{ℕ, _+_, _*_, _≤_}
 use native.Mathlib.Omega.{arith}
@@ -21,8 +22,9 @@ use Rattle.laws.specs.CallKeeps.{Good}
 use Rattle.laws.specs.Opening.{by-opening, addable}
 use Rattle.laws.specs.Added.{published, add-done}
 use Rattle.laws.specs.Reads.{AllNarrow, Reads}
-use Rattle.laws.specs.DirectReads.{direct-publishes}
-use Rattle.laws.specs.ListReads.{list-publishes}
+use Rattle.laws.specs.Followed.{Plain, Listed}
+use Rattle.laws.specs.DirectReads.{direct-publishes, direct-stands}
+use Rattle.laws.specs.ListReads.{list-publishes, list-stands}
 
 module _ (q : Queue) (m : Memory) (bs : List Buffer) (g : Good q) (e : addRefusal q m bs ≡ 0) where
   -- where nothing refuses the add, each region holds what it needs
@@ -61,3 +63,14 @@ module _ (q : Queue) (m : Memory) (bs : List Buffer) (g : Good q) (e : addRefusa
       (by-opening q bs able (λ r. Reads (q .modes .legacy) (q .n) (q .base) (published r (q .counts .free) (length bs) m) (q .counts .avail) (q .counts .free) bs)
       (λ i l. list-publishes q m bs g able i one-room (pool-room i) f)
       (λ d. direct-publishes q m bs g able d one-room f))
+
+  -- THE LAW: how its descriptors stand in the table
+  abbrev pub Stands : Memory → Type 0
+  Stands x = Plain (q .n) x (q .counts .free) ⊎ ((q .modes .indirect ≡ true) × Listed (q .n) (q .base) x (q .counts .free))
+
+  pub add-stands : AllNarrow bs → Stands (add q m bs .memory)
+  add-stands f =
+      subst (λ (o : Outcome). Stands (o .memory)) (sym (add-done q m bs g e))
+      (by-opening q bs able (λ r. Stands (published r (q .counts .free) (length bs) m))
+      (λ i l. inr (i, list-stands q m bs g able i one-room (pool-room i) f))
+      (λ d. inl (direct-stands q m bs g able d one-room f)))

@@ -73,7 +73,7 @@ pub one-most : (b : Bool) → one-if b ≤ 1
 one-most true = omega arith
 one-most false = omega arith
 
-tally-most : (p : ℕ → Bool) (m i : ℕ) → tally p m i ≤ m
+pub tally-most : (p : ℕ → Bool) (m i : ℕ) → tally p m i ≤ m
 unfolding tally
 tally-most p zero i = omega arith
 tally-most p (suc m) i = omega (arith, one-most (p i), tally-most p m (suc i))

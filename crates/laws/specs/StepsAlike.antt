@@ -82,7 +82,7 @@ all-shaped p q [] s a = tt
 all-shaped p q (m ∷ ms) s a =
     (still-fits p q m m s (record { one = refl; two = refl; pool = refl }) ∙ a .0, all-shaped p q ms s (a .1))
 
-move-shaped : (q : Queue) (m : Memory) → Shaped (move q m .queue) q
+pub move-shaped : (q : Queue) (m : Memory) → Shaped (move q m .queue) q
 unfolding move
 move-shaped q m = react-shaped q (q .call) (loaded q (access q (q .call)) m)
 

@@ -50,6 +50,11 @@ pub false-not : (b : Bool) → b ≡ false → not b ≡ true
 false-not true e = absurd (true≢false e)
 false-not false e = refl
 
+-- what holds of both that a test may choose holds of its choice
+pub either : {A : Type 0} (P : A → Type 0) (b : Bool) (x y : A) → (b ≡ true → P x) → (b ≡ false → P y) → P (cond b x y)
+either P true x y f g = f refl
+either P false x y f g = g refl
+
 -- two choices by the same test are the same where what they choose is
 pub cond-both : {A : Type 0} (b c : Bool) (x y u v : A) → b ≡ c → (c ≡ true → x ≡ u) → (c ≡ false → y ≡ v) → cond b x y ≡ cond c u v
 cond-both b true x y u v e f g = ap (λ t. cond t x y) e ∙ f refl

@@ -11,7 +11,6 @@ use lib.ListN.{getD}
 use Rattle.lists.specs.Tests.{by-test}
 use Rattle.lists.specs.Stores.{slots-apart}
 use Rattle.lists.specs.Pick.{one-if}
-use Rattle.lists.specs.Once.{count}
 use Rattle.lists.specs.Walk.{hop, hop-next}
 use Rattle.virtio.specs.declared.Desc.{Desc}
 use Rattle.virtio.specs.declared.Buffer.{Buffer}
@@ -24,18 +23,18 @@ use Rattle.rules.specs.Record.{Queue, descOf, nextOf, notedOf, lastOf, isIndire
 use Rattle.rules.specs.Meaning.{WellFormed, Out, Named, Adding}
 use Rattle.rules.specs.Calls.{fits}
 use Rattle.rules.specs.Step.{Access, store, storeDesc, accessed, withNext, listEntry, addAccess, move}
-use Rattle.laws.specs.Changes.{access-lengths}
+use Rattle.laws.specs.Changes.{one-noted, last-head, access-lengths}
 use Rattle.laws.specs.CallKeeps.{Good, move-keeps}
 use Rattle.laws.specs.Regions.{still-fits}
 use Rattle.laws.specs.Runs.{move-at}
 use Rattle.laws.specs.FreeLaws.{hop-low, hop-stands}
 use Rattle.mixing.specs.Device.{Device}
-use Rattle.mixing.specs.Fields.{dsc, at, Changed, put-changed, desc-changed, put-num, Back, put-back, unlike, one-not-pool}
+use Rattle.mixing.specs.Fields.{dsc, Changed, put-changed, desc-changed, put-num, Back, put-back, unlike, one-not-pool}
 use Rattle.mixing.specs.Facts.{adding, offered, isOut, Notes, InChain, TableOk, ListOk, Blank, Progress, DriverAt, Facts}
 use Rattle.mixing.specs.Stages.{kind}
 use Rattle.mixing.specs.Shows.{slot-low, small, hop-in, entry-low, staged-out, filled, slots-differ, avail-slot}
 use Rattle.mixing.specs.DriverMoves.{stored}
-use Rattle.mixing.specs.Adding.{no, size-direct, size-list, one-noted, last-head, some-noted, hops-apart, progress-on, progress-next, progress-call}
+use Rattle.mixing.specs.Adding.{no, size-direct, size-list, some-noted, noted-apart, progress-on, progress-next, progress-call}
 
 -- a flags word below 4 has no INDIRECT; with NEXT put in it stays below 4
 low-direct : (x : ℕ) → x < 4 → eqb (x / 4 % 2) 1 ≡ false
@@ -192,7 +191,7 @@ module _ (base : ℕ) (q : Queue) (m : Memory) (d : Device) (g : Notes) (f : Fac
       let has : hop (nextOf q) s h < q .n = hop-low q well h s (out .below) in
       let c : Changed q p m (accessed q own-desc m) = desc-changed q p (withNext (descOf q (hop (nextOf q) s h))) m refl in
       let now : Progress base q (accessed q own-desc m) h s = progress-on q well h out base m (accessed q own-desc m) p has c s
-      (λ j a b y. hops-apart q well h out j s b (omega arith) (ap no y)) (λ a y. absurd (omega arith)) (λ a j b u y. absurd (true≢false (sym a ∙ i)))
+      (λ j a b y. noted-apart q well h out j s b (omega arith) (ap no y)) (λ a y. absurd (omega arith)) (λ a j b u y. absurd (true≢false (sym a ∙ i)))
       (λ a y. absurd (omega arith)) (standing .1) in
       on own-desc (rw (lt-ltb s k l, i)) (omega arith)
       (after-store p own-desc has refl (desc-blank s (omega arith)) c (omega arith) now
@@ -267,7 +266,7 @@ module _ (base : ℕ) (q : Queue) (m : Memory) (d : Device) (g : Notes) (f : Fac
       let p : Place = desc (lastOf q h) in
       let c : Changed q p m (accessed q own-last m) = desc-changed q p (descOf q (lastOf q h)) m refl in
       let now : Progress base q (accessed q own-last m) h s = progress-on q well h out base m (accessed q own-last m) p last-low c s
-      (λ j a b y. hops-apart q well h out j (notedOf q h - 1) (omega arith) (omega arith) (ap no y)) (λ a y. absurd (omega arith))
+      (λ j a b y. noted-apart q well h out j (notedOf q h - 1) (omega arith) (omega arith) (ap no y)) (λ a y. absurd (omega arith))
       (λ a j b v. unlike (omega arith))
       (λ a y. absurd (omega arith)) (standing .1) in
       on own-last (rw (le-ltb s k (omega arith), eq-eqb s k z)) (omega arith)

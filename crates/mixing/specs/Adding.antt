@@ -1,21 +1,18 @@
 -- An open add: its descriptors and entries, and what it has stored so far, step by step.
 use mathlib.Core.Path.{_≡_, refl, sym, ap, subst, _∙_}
-use mathlib.Core.Bool.{true, false, cond, true≢false}
-use mathlib.Core.List.{_++_}
+use mathlib.Core.Bool.{true, false, cond}
 use Prim.Native.Nat.{ℕ, zero, suc, _+_, _-_, _*_, _%_, _≤_, _<_}
 use native.Mathlib.Omega.{arith}
-use lib.Dec.{eqb}
 use Rattle.lists.specs.Tests.{by-eq}
 use Rattle.lists.specs.Once.{count, count-other}
-use Rattle.lists.specs.Places.{count-append}
-use Rattle.lists.specs.Walk.{hop, walk, walk-split}
-use Rattle.lists.specs.WalkLaws.{hop-twice}
+use Rattle.lists.specs.Walk.{hop, walk}
 use Rattle.virtio.specs.Memory.{Memory, Place, desc, avail-flags, avail-idx, used-event, avail-ring, used-flags, used-idx, avail-event, used-id, used-len, entry}
 use Rattle.virtio.specs.Sizes.{Has}
 use Rattle.rules.specs.declared.Open.{Open}
 use Rattle.rules.specs.Record.{Queue, nextOf, notedOf, chainOf, lastOf, isIndirect, entriesOf, sizeOf, withCall}
 use Rattle.rules.specs.Meaning.{WellFormed, Out}
 use Rattle.laws.specs.FreeLaws.{hop-low, hop-stands}
+use Rattle.laws.specs.DirectReads.{hops-apart}
 use Rattle.mixing.specs.Fields.{num, dsc, Changed, num-kept, dsc-kept}
 use Rattle.mixing.specs.Facts.{TableOk, ListOk, Led, Progress}
 use Rattle.mixing.specs.Shows.{entry-low, slot-low}
@@ -43,35 +40,15 @@ module _ (q : Queue) (w : WellFormed q) (h : ℕ) (o : Out q h) where
   pub size-list : isIndirect q h ≡ true → sizeOf q h ≡ entriesOf q h
   size-list e = ap (λ b. cond b (entriesOf q h) (notedOf q h)) e
 
-  -- an indirect head is all of its chain
-  pub one-noted : isIndirect q h ≡ true → notedOf q h ≡ 1
-  unfolding hop
-  one-noted e =
-      by-eq (notedOf q h) 1 (λ z. z)
-      (λ z. let n : (notedOf q h ≡ 0 → ⊥) = o .noted in
-      absurd (true≢false (sym (w .goes-on h 0 o (omega arith)) ∙ ap (λ x. eqb (x % 2) 1) (w .listed h o e .flags))))
-
-  pub last-head : isIndirect q h ≡ true → lastOf q h ≡ h
-  unfolding hop
-  last-head e = ap (λ k. hop (nextOf q) (k - 1) h) (one-noted e)
-
   pub some-noted : 0 < notedOf q h
   some-noted = let n : (notedOf q h ≡ 0 → ⊥) = o .noted in omega arith
 
   -- ---- its descriptors differ
 
-  pub hops-apart : (i j : ℕ) → i < j → j < notedOf q h → hop (nextOf q) i h ≡ hop (nextOf q) j h → ⊥
-  hops-apart i j l u e =
-      let next : (ℕ → ℕ) = nextOf q in
-      let x : ℕ = hop next j h in
-      let s : notedOf q h ≡ suc j + (notedOf q h - suc j) = omega arith in
-      let a : count x (chainOf q h) ≡ count x (walk next (suc j) h ++ walk next (notedOf q h - suc j) (hop next (suc j) h)) =
-      ap (count x) (ap (λ t. walk next t h) s ∙ walk-split next (suc j) (notedOf q h - suc j) h) in
-      let b : count x (walk next (suc j) h ++ walk next (notedOf q h - suc j) (hop next (suc j) h)) ≡ count x (walk next (suc j) h) + count x (walk next (notedOf q h - suc j) (hop next (suc j) h)) =
-      count-append x (walk next (suc j) h) (walk next (notedOf q h - suc j) (hop next (suc j) h)) in
-      let t : 1 < count x (walk next (suc j) h) = hop-twice next j h i x l e refl in
-      let c : count x (chainOf q h) ≡ 1 = hop-stands q w h j (o .below) u .once in
-      omega arith
+  pub noted-apart : (i j : ℕ) → i < j → j < notedOf q h → hop (nextOf q) i h ≡ hop (nextOf q) j h → ⊥
+  noted-apart i j l u e =
+      let c : count (hop (nextOf q) j h) (chainOf q h) ≡ 1 = hop-stands q w h j (o .below) u .once in
+      hops-apart (nextOf q) (notedOf q h) h i j l u (omega arith) e
 
   -- a number that the walk of k from i on names is reached
   reached : (next : ℕ → ℕ) (k i x : ℕ) → 0 < count x (walk next k i) → (j : ℕ) × (j < k) × (x ≡ hop next j i)

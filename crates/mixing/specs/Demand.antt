@@ -1,6 +1,6 @@
 -- DEMAND 3, stated; Proof proves it. Take a fresh queue, of any allowed size, modes and layout, one device that keeps the rules, and any list of events of the two.
 -- Where it leaves nothing half done, some order of unmixed operations leaves the very same trace: what each side did, in its own order, what it was
--- answered, took and saw, and the record and every byte of memory at the end.
+-- answered, took and saw, how many steps each call took, and the record and every byte of memory at the end.
 use mathlib.Core.Path.{_≡_}
 use mathlib.Core.Bool.{false}
 use mathlib.Core.List.{List, [], _∷_, _++_}
@@ -33,6 +33,7 @@ start r = record {
   queue = r .queue;
   memory = r .memory;
   device = freshDevice;
+  made = 0;
   calls = [];
   answers = [];
   acts = [];

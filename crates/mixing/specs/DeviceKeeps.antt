@@ -1,13 +1,13 @@
 -- Every opening and every step of the device keeps the invariant.
 use mathlib.Core.Path.{_≡_, refl, sym, ap, subst, _∙_}
-use mathlib.Core.Bool.{Bool, true, false, cond, true≢false}
+use mathlib.Core.Bool.{true, false, true≢false}
 use mathlib.Core.List.{List, [], _∷_, _++_}
 use Prim.Native.Nat.{ℕ, zero, suc, _+_, _-_, _/_, _%_, _≤_, _<_}
 use native.Mathlib.Omega.{arith}
 use borrow.Author.Tests.{eqb-false}
 use lib.Dec.{eqb}
 use lib.ListN.{length, length-append}
-use Rattle.lists.specs.Tests.{by-test, by-eq}
+use Rattle.lists.specs.Tests.{by-test, by-eq, either}
 use Rattle.lists.specs.Index.{after, after-counts}
 use Rattle.lists.specs.Pick.{one-if}
 use Rattle.lists.specs.Once.{mem}
@@ -174,13 +174,9 @@ module _ (base : ℕ) (q : Queue) (m : Memory) (d : Device) (g : Notes) (f : Fac
 
   -- ---- the steps of a take
 
-  either : (b : Bool) (x y : Worked) → (b ≡ true → Left x) → (b ≡ false → Left y) → Left (cond b x y)
-  either true x y s t = s refl
-  either false x y s t = t refl
-
   idx-left : Left (work w take-idx d m)
   idx-left =
-      either (eqb (num q avail-idx m) (d .taken)) _ _
+      either Left (eqb (num q avail-idx m) (d .taken)) _ _
       (λ e. (g, goes-on resting tt))
       (λ e. (
         g,
@@ -209,11 +205,11 @@ module _ (base : ℕ) (q : Queue) (m : Memory) (d : Device) (g : Notes) (f : Fac
       let t : TableOk base q h y = f .shown .led h (g .takes) (x .1) .0 i (x .2) in
       let o : Out q h = staged-out q m d g f h (ap isOut (x .1)) in
       let u : suc k ≤ q .n + 1 = x .3 in
-      either (hasIndirect y) _ _
+      either Left (hasIndirect y) _ _
       (λ e. let r = t .0 e in
       let z : 2 ≤ entriesOf q h = well .listed h o (r .0) .two in
       (g, goes-on (take-chain h k (in-list ((y .addr - base) / 16)) 0 bs) (x .0, x .1, (r .0, r .1, omega arith), omega arith)))
-      (λ e. either (hasNext y) _ _
+      (λ e. either Left (hasNext y) _ _
       (λ n. (g, goes-on (take-chain h k in-table (y .next) (bs ++ (bufferOf y ∷ []))) (x .0, x .1, t .1 e n, omega arith)))
       (λ n. takes-left h (x .0) (x .1) (bs ++ (bufferOf y ∷ []))))
   chain-left h (suc k) (in-list s) i bs x =
@@ -221,7 +217,7 @@ module _ (base : ℕ) (q : Queue) (m : Memory) (d : Device) (g : Notes) (f : Fac
       let t : ListOk q h y =
       subst (λ z. ListOk q h (dsc q (entry (z + i)) m)) (sym (x .2 .1)) (f .shown .led h (g .takes) (x .1) .1 (x .2 .0) i (x .2 .2)) in
       let u : suc k ≤ q .n + 1 = x .3 in
-      either (hasNext y) _ _
+      either Left (hasNext y) _ _
       (λ n. (g, goes-on (take-chain h k (in-list s) (y .next) (bs ++ (bufferOf y ∷ []))) (x .0, x .1, (x .2 .0, x .2 .1, t n), omega arith)))
       (λ n. takes-left h (x .0) (x .1) (bs ++ (bufferOf y ∷ [])))
 
@@ -383,7 +379,7 @@ module _ (base : ℕ) (q : Queue) (m : Memory) (d : Device) (g : Notes) (f : Fac
   pub begin-left : (a : Act) → Left (begin w a d m)
   unfolding Has
   begin-left take-next = (g, goes-on take-idx tt)
-  begin-left (complete h l) = either (mayGiveBack (d .holds) h) _ _ (λ e. (g, goes-on (complete-id h l) e)) (λ e. (g, goes-on resting tt))
+  begin-left (complete h l) = either Left (mayGiveBack (d .holds) h) _ _ (λ e. (g, goes-on (complete-id h l) e)) (λ e. (g, goes-on resting tt))
   begin-left (set-used-flags v) = (g, stores used-flags v resting tt refl tt tt)
   begin-left (set-avail-event v) = (g, stores avail-event v resting tt refl tt tt)
   begin-left see-avail-flags = (g, goes-on resting tt)

@@ -1,7 +1,6 @@
 -- Whatever was begun can be brought to its end: n + 4 steps and n + 4 ticks leave nothing open.
-use mathlib.Core.Path.{_≡_, refl, sym, ap, _∙_}
-use mathlib.Core.Bool.{false}
-use mathlib.Core.List.{List, [], _∷_, _++_}
+use mathlib.Core.Path.{_≡_, refl, sym, ap, subst, _∙_}
+use mathlib.Core.List.{List, _++_}
 use Prim.Native.Nat.{ℕ, zero, suc, _+_}
 use lib.ListN.{replicate}
 use Rattle.virtio.specs.Memory.{Memory}
@@ -9,18 +8,16 @@ use Rattle.rules.specs.New.{Ask, new}
 use Rattle.mixing.specs.Device.{Wiring}
 use Rattle.mixing.specs.Mix.{Event, call, step, act, tick, Trace, event, trace}
 use Rattle.mixing.specs.Demand.{Whole, whole-call, whole-act, stepsOf, start, wiring, Whole-ended}
-use Rattle.mixing.specs.Whole.{driver, device, driver≢device, busy, finished, ticks-close, trace-append}
+use Rattle.mixing.specs.Whole.{driver, device, driver≢device, busy, sides, finished, ticks-close, events-trace, trace-append}
 use Rattle.mixing.specs.Facts.{Inv}
 use Rattle.mixing.specs.Kept.{keeps, sane}
 use Rattle.mixing.specs.Swap.{queue-swaps}
-use Rattle.mixing.specs.Turns.{Swaps}
+use Rattle.mixing.specs.Turns.{events-keep}
 use Rattle.mixing.specs.Start.{start-inv}
 
 module _ (w : Wiring) where
-  trace-keep : (es : List Event) (t : Trace) → Inv w t → Inv w (trace w es t)
-  unfolding trace
-  trace-keep [] t v = v
-  trace-keep (e ∷ es) t v = trace-keep es (event w e t) (keeps w e t v)
+  pub trace-keep : (es : List Event) (t : Trace) → Inv w t → Inv w (trace w es t)
+  trace-keep es t v = subst (Inv w) (events-trace w es t) (events-keep (sides w) (Inv w) (keeps w) es t v)
 
   ticks-apart : (b : ℕ) (t : Trace) → Inv w t → busy driver (trace w (replicate b tick) t) ≡ busy driver t
   unfolding trace

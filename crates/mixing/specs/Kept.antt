@@ -10,16 +10,16 @@ use Rattle.virtio.specs.Memory.{Memory}
 use Rattle.rules.specs.Record.{Queue}
 use Rattle.rules.specs.Answer.{Outcome, Busy}
 use Rattle.rules.specs.Step.{move}
-use Rattle.rules.specs.Calls.{opened, andThen}
 use Rattle.laws.specs.Regions.{Shaped}
+use Rattle.laws.specs.StepsAlike.{move-shaped}
 use Rattle.mixing.specs.Device.{Wiring, Act, Doing, resting, take-idx, take-head, take-chain, complete-id, complete-len, complete-idx, Device, Worked, begin, work}
-use Rattle.mixing.specs.Mix.{Call, Event, call, step, act, tick, Trace, opening, drives, works, event}
+use Rattle.mixing.specs.Mix.{Call, Event, call, step, act, tick, Trace, opening, further, drives, works, event}
 use Rattle.mixing.specs.Whole.{driver, device, busy, ticksMost, Sane, step-open, tick-open, step-idle, tick-idle}
 use Rattle.mixing.specs.Facts.{Notes, DeviceAt, Facts, Inv}
 use Rattle.mixing.specs.DeviceKeeps.{wire, work-left, begin-left}
 use Rattle.mixing.specs.PopSteps.{move-left}
 use Rattle.mixing.specs.Opens.{opening-left}
-use Rattle.mixing.specs.Shaping.{opening-shaped, move-shaped}
+use Rattle.mixing.specs.Shaping.{opening-shaped}
 
 module _ (w : Wiring) where
   -- ---- what the invariant says
@@ -72,7 +72,7 @@ module _ (w : Wiring) where
   keeps step t v =
       by-test (busy driver t)
       (λ o. subst (Inv w) (sym (step-open w t (sane t v) o))
-      (drives-keep t v [] (andThen (opened (t .queue) (t .memory)) (move (t .queue) (t .memory))) (move-shaped (t .queue) (t .memory))
+      (drives-keep t v [] (further (t .made) (move (t .queue) (t .memory))) (move-shaped (t .queue) (t .memory))
       (move-left (w .base) (t .queue) (t .memory) (t .device) (v .notes) (v .facts))))
       (λ o. subst (Inv w) (sym (step-idle w t o)) v)
   keeps (act a) t v = go (busy device t)

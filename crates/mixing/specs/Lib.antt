@@ -6,9 +6,10 @@
 --   Mixings   mixings of a queue of size 2, computed, with the order that explains each
 --   Single    one of a queue of size 1, in the legacy layout
 --   Tried     mixings that wrong rules break, with all their orders tried
+--   MoreMixings  mixings of a queue of size 4, with event indices, and across the indices' wrap: the proof's own order of each, computed
 -- Its proof:
 --   Turns     THE REDUCTION for sides in general, however many: events that leave an operation open change places with those of other sides
---   Whole     a turn of one side alone is whole calls, or whole acts; so what is left to show is `Swaps`
+--   Whole     a turn is one whole call or one whole act, so THE ORDER is that of last events; what is left to show is `Swaps`
 --   WholeCalls  a whole call of the statement is the rules' whole call
 --   Fields    fields beside each other: loads after stores, stores that change places
 --   Facts     THE INVARIANT, with counters that do not wrap and a stage for each head
@@ -22,7 +23,9 @@
 --   Start     a fresh queue meets the invariant
 --   Proof     DEMAND 3, PROVED
 --   Ends      every mixing can be brought to its end, so that the statement leaves none out
+--   Orders    in what explains a mixing each operation is whole, and each side's are in its own order
 --   Takes     what the device takes is the chain by VIRTIO's own rule
+--   TakesAdded  a take that follows a whole add takes that add's list
 pub mod Device
 pub mod Writers
 pub mod Mix
@@ -53,5 +56,8 @@ pub mod Start
 pub mod Proof
 pub mod WholeCalls
 pub mod Tried
+pub mod MoreMixings
 pub mod Ends
+pub mod Orders
 pub mod Takes
+pub mod TakesAdded

@@ -1,7 +1,7 @@
 -- Mixings: events of the driver and of the device, one opening, load or store at a time, and the trace that they leave.
 use mathlib.Core.Bool.{Bool, cond}
 use mathlib.Core.List.{List, [], _∷_, _++_}
-use Prim.Native.Nat.{ℕ}
+use Prim.Native.Nat.{ℕ, _+_}
 use lib.Dec.{eqb}
 use Rattle.virtio.specs.declared.Buffer.{Buffer}
 use Rattle.virtio.specs.Memory.{Memory}
@@ -24,17 +24,19 @@ pub data Event : Type 0 where
   act : Act → Event
   tick : Event
 
--- What a call answered: its number and its value.
+-- What a call answered: its number and its value; and the steps that it took.
 pub record Answer : Type 0 where
   pub number : ℕ
   pub value : ℕ
+  pub steps : ℕ
 
 -- The trace of a mixing: the record, the memory and the device as they stand; and so far, for each side in its own order, the operations that it
--- began and what those that have ended came to. A call refused as Busy leaves no trace.
+-- began and what those that have ended came to; and how many steps the call that was opened last has made. A call refused as Busy leaves no trace.
 pub record Trace : Type 0 where
   pub queue : Queue
   pub memory : Memory
   pub device : Device
+  pub made : ℕ
   pub calls : List Call
   pub answers : List Answer
   pub acts : List Act
@@ -52,11 +54,15 @@ opening (set-dev-notify wanted) q m = setDevNotify q m wanted
 
 -- an outcome is an answer once no call is open
 abbrev pub answersOf : Outcome → List Answer
-answersOf o = cond (isOpen (o .queue .call)) [] (record { number = o .answer; value = o .value } ∷ [])
+answersOf o = cond (isOpen (o .queue .call)) [] (record { number = o .answer; value = o .value; steps = o .steps } ∷ [])
 
 abbrev pub resultsOf : Done → List Result
 resultsOf going = []
 resultsOf (ended r) = r ∷ []
+
+-- the outcome of a step whose call had made k steps before
+abbrev pub further : ℕ → Outcome → Outcome
+further k o = record { answer = o .answer; value = o .value; steps = k + o .steps; queue = o .queue; memory = o .memory }
 
 -- the driver's outcome, and the device's, go into the trace
 abbrev pub drives : List Call → Outcome → Trace → Trace
@@ -64,6 +70,7 @@ drives cs o t = record {
   queue = o .queue;
   memory = o .memory;
   device = t .device;
+  made = o .steps;
   calls = t .calls ++ cs;
   answers = t .answers ++ answersOf o;
   acts = t .acts;
@@ -75,6 +82,7 @@ works began w t = record {
   queue = t .queue;
   memory = w .memory;
   device = w .device;
+  made = t .made;
   calls = t .calls;
   answers = t .answers;
   acts = t .acts ++ began;
@@ -88,7 +96,7 @@ called c o t = cond (eqb (o .answer) Busy) t (drives (c ∷ []) o t)
 module _ (w : Wiring) where
   unfoldable pub event : Event → Trace → Trace
   event (call c) t = called c (opening c (t .queue) (t .memory)) t
-  event step t = cond (isOpen (t .queue .call)) (drives [] (stepOf (t .queue) (t .memory)) t) t
+  event step t = cond (isOpen (t .queue .call)) (drives [] (further (t .made) (stepOf (t .queue) (t .memory))) t) t
   event (act a) t = cond (acting (t .device .doing)) t (works (a ∷ []) (begin w a (t .device) (t .memory)) t)
   event tick t = cond (acting (t .device .doing)) (works [] (work w (t .device .doing) (t .device) (t .memory)) t) t
 

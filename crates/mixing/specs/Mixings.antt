@@ -22,32 +22,32 @@ use Rattle.mixing.specs.Demand.{Whole, whole-call, whole-act, inTurn, st
 
 -- ---- the queue, and how an end is written
 
-abbrev direct : Modes
+abbrev pub direct : Modes
 direct = record { indirect = false; «event_idx» = false; legacy = false }
 
 abbrev lists-events : Modes
 lists-events = record { indirect = true; «event_idx» = true; legacy = false }
 
-abbrev ask : Modes → Ask
+abbrev pub ask : Modes → Ask
 ask o = record { n = 2; in-use = false; most = 2; modes = o; base-one = 0; base-two = 4096; base-pool = 8192 }
 
-abbrev lent : Memory
+abbrev pub lent : Memory
 lent = record { one = replicate 42 0; two = replicate 22 0; pool = replicate 64 0 }
 
-abbrev run : Modes → List Event → Trace
+abbrev pub run : Modes → List Event → Trace
 run o es = trace (wiring (ask o)) es (start (new (ask o) lent))
 
 abbrev turns : Modes → List Whole → Trace
 turns o ws = run o (inTurn 2 ws)
 
-abbrev input : Buffer
+abbrev pub input : Buffer
 input = record { addr = 4096; len = 10; output = false }
 
-abbrev output : Buffer
+abbrev pub output : Buffer
 output = record { addr = 8192; len = 20; output = true }
 
-abbrev says : ℕ → ℕ → Answer
-says number v = record { number = number; value = v }
+abbrev pub says : ℕ → ℕ → ℕ → Answer
+says number v steps = record { number = number; value = v; steps = steps }
 
 abbrev link : ℕ → ℕ → ℕ → ℕ → Desc
 link a l f x = record { addr = a; len = l; flags = f; next = x }
@@ -94,8 +94,9 @@ between-end = record {
     pool = replicate 64 0;
   };
   device = idle 1 1 [];
+  made = 5;
   calls = add (input ∷ output ∷ []) ∷ should-notify ∷ pop-used 0 (input ∷ output ∷ []) ∷ pop-used 0 (input ∷ output ∷ []) ∷ [];
-  answers = says 0 0 ∷ says 0 1 ∷ says 3 0 ∷ says 0 20 ∷ [];
+  answers = says 0 0 5 ∷ says 0 1 1 ∷ says 3 0 1 ∷ says 0 20 5 ∷ [];
   acts = take-next ∷ take-next ∷ complete 0 20 ∷ set-used-flags 1 ∷ [];
   results = none-available ∷ took 0 (input ∷ output ∷ []) ∷ completed ∷ stored ∷ [];
 }
@@ -136,8 +137,9 @@ reordered-end = record {
     pool = replicate 64 0;
   };
   device = idle 2 2 [];
+  made = 0;
   calls = add (input ∷ []) ∷ add (output ∷ []) ∷ peek-used ∷ peek-used ∷ pop-used 0 (input ∷ []) ∷ pop-used 1 (output ∷ []) ∷ available-desc ∷ [];
-  answers = says 0 0 ∷ says 0 1 ∷ says 3 0 ∷ says 0 1 ∷ says 4 0 ∷ says 0 5 ∷ says 0 1 ∷ [];
+  answers = says 0 0 4 ∷ says 0 1 4 ∷ says 3 0 1 ∷ says 0 1 2 ∷ says 4 0 3 ∷ says 0 5 4 ∷ says 0 1 0 ∷ [];
   acts = take-next ∷ take-next ∷ take-next ∷ complete 1 5 ∷ complete 0 0 ∷ [];
   results = none-available ∷ took 0 (input ∷ []) ∷ took 1 (output ∷ []) ∷ completed ∷ completed ∷ [];
 }
@@ -179,8 +181,9 @@ listed-end = record {
     pool = 0 ∷ 16 ∷ 0 ∷ 0 ∷ 0 ∷ 0 ∷ 0 ∷ 0 ∷ 10 ∷ 0 ∷ 0 ∷ 0 ∷ 1 ∷ 0 ∷ 1 ∷ 0 ∷ 0 ∷ 32 ∷ 0 ∷ 0 ∷ 0 ∷ 0 ∷ 0 ∷ 0 ∷ 20 ∷ 0 ∷ 0 ∷ 0 ∷ 2 ∷ 0 ∷ 2 ∷ replicate 33 0;
   };
   device = idle 1 1 [];
+  made = 1;
   calls = add (input ∷ output ∷ []) ∷ add (input ∷ []) ∷ should-notify ∷ pop-used 0 (input ∷ output ∷ []) ∷ can-pop ∷ [];
-  answers = says 0 0 ∷ says 0 1 ∷ says 0 1 ∷ says 0 7 ∷ says 0 0 ∷ [];
+  answers = says 0 0 5 ∷ says 0 1 4 ∷ says 0 1 1 ∷ says 0 7 4 ∷ says 0 0 1 ∷ [];
   acts = take-next ∷ take-next ∷ set-avail-event 1 ∷ complete 0 7 ∷ see-used-event ∷ see-used-event ∷ see-used-event ∷ [];
   results = none-available ∷ took 0 (input ∷ output ∷ []) ∷ stored ∷ completed ∷ saw 0 ∷ saw 0 ∷ saw 1 ∷ [];
 }
@@ -219,8 +222,9 @@ flagged-end = record {
     pool = replicate 64 0;
   };
   device = idle 1 0 (0 ∷ []);
+  made = 1;
   calls = set-dev-notify false ∷ add (input ∷ []) ∷ set-dev-notify true ∷ [];
-  answers = says 0 0 ∷ says 0 0 ∷ says 0 0 ∷ [];
+  answers = says 0 0 1 ∷ says 0 0 4 ∷ says 0 0 1 ∷ [];
   acts = see-avail-flags ∷ see-avail-flags ∷ complete 0 1 ∷ take-next ∷ see-avail-flags ∷ [];
   results = saw 0 ∷ saw 1 ∷ not-taken ∷ took 0 (input ∷ []) ∷ saw 0 ∷ [];
 }

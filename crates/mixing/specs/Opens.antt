@@ -1,9 +1,9 @@
 -- Every opening of a call, and every call of a single step, keeps the invariant.
-use mathlib.Core.Path.{_≡_, refl, sym, ap, subst, fun-ext, _∙_}
+use mathlib.Core.Path.{_≡_, refl, sym, ap, subst, _∙_}
 use mathlib.Core.Bool.{Bool, true, false, not, cond, _&&_, true≢false}
-use mathlib.Core.Logic.{_⊎_, inl, inr}
-use mathlib.Core.List.{List, [], _∷_, _++_}
-use Prim.Native.Nat.{ℕ, suc, _+_, _-_, _≤_, _<_}
+use mathlib.Core.Logic.{_⊎_}
+use mathlib.Core.List.{List, [], _∷_}
+use Prim.Native.Nat.{ℕ, suc, _-_, _≤_, _<_}
 use native.Mathlib.Omega.{arith}
 use borrow.Author.Tests.{eqb-true}
 use lib.Dec.{ltb, eqb}
@@ -13,8 +13,7 @@ use Rattle.lists.specs.Tests.{by-test, by-eq}
 use Rattle.lists.specs.Pick.{Test, _when_}
 use Rattle.lists.specs.PickLaws.{first-none, NoneOf}
 use Rattle.lists.specs.Once.{count}
-use Rattle.lists.specs.Places.{count-append}
-use Rattle.lists.specs.Walk.{hop, walk, walks, walk-split, walk-below}
+use Rattle.lists.specs.Walk.{hop}
 use Rattle.lists.specs.WalkLaws.{hop-counted}
 use Rattle.virtio.specs.declared.Desc.{Desc}
 use Rattle.virtio.specs.declared.Buffer.{Buffer}
@@ -24,15 +23,15 @@ use Rattle.virtio.specs.Sizes.{Has}
 use Rattle.rules.specs.declared.Open.{Open}
 use Rattle.rules.specs.declared.Open.the-variants.{Idle, Add, PopIdx, PeekIdx}
 use Rattle.rules.specs.Record.{Queue, Counts, Tables, descOf, nextOf, notedOf, outstanding, freeCount, freeList, chainOf, isIndirect, isOpen, withCall}
-use Rattle.rules.specs.WellFormed.{wellFormed, named}
+use Rattle.rules.specs.WellFormed.{wellFormed}
 use Rattle.rules.specs.Meaning.{WellFormed, Out}
 use Rattle.rules.specs.Answer.{Outcome, refused, unless, BadRecord, BadRegion, Busy}
 use Rattle.rules.specs.Step.{store}
-use Rattle.rules.specs.Calls.{fits, addRefusal, callRefusal, countRefusal, filled, more?, addDirect, headDesc, addIndirect, addOpened, opened, matches, openAdd, openPop, openPeek, answered, canPop, shouldNotify, setDevNotify, availableDesc}
+use Rattle.rules.specs.Calls.{fits, addRefusal, callRefusal, countRefusal, more?, addDirect, headDesc, addIndirect, addOpened, opened, matches, openAdd, openPop, openPeek, answered, canPop, shouldNotify, setDevNotify, availableDesc}
 use Rattle.laws.specs.WellFormedIs.{out-means, means-out}
-use Rattle.laws.specs.FillLaws.{fill-links, fill-other, fill-at}
+use Rattle.laws.specs.FillLaws.{fill-other}
 use Rattle.laws.specs.FreeLaws.{hop-stands}
-use Rattle.laws.specs.AddKeeps.{Addable, direct-others}
+use Rattle.laws.specs.AddKeeps.{Addable, nexts, noted-new, taken-free, desc-new, direct-others}
 use Rattle.laws.specs.ListKeeps.{list-others}
 use Rattle.laws.specs.CallKeeps.{Good, none-open, open-pop-keeps, open-peek-keeps}
 use Rattle.laws.specs.Opening.{by-opening, addable, open-add-keeps}
@@ -162,46 +161,6 @@ module _ (base : ℕ) (q : Queue) (m : Memory) (d : Device) (g : Notes) (f : Fac
       abbrev direct : Queue
       direct = addDirect q bs
 
-      abbrev taken-walk : List ℕ
-      taken-walk = walk (nextOf q) (length bs) head
-
-      room-by : (q .modes .indirect ≡ false) ⊎ (length bs ≡ 1) → q .counts .used + length bs ≤ q .n
-      room-by (inl e) = a .direct e
-      room-by (inr e) = let l : q .counts .used < q .n = a .room in omega arith
-
-      taken-count : (i : ℕ) → count i taken-walk ≤ count i (freeList q)
-      taken-count i =
-          let l : q .counts .used + length bs ≤ q .n = room-by x in
-          let rest : ℕ = q .n - (q .counts .used + length bs) in
-          let e : q .n - q .counts .used ≡ length bs + rest = omega arith in
-          let s : freeList q ≡ taken-walk ++ walk (nextOf q) rest (hop (nextOf q) (length bs) head) =
-          ap (λ k. walk (nextOf q) k head) e ∙ walk-split (nextOf q) (length bs) rest head in
-          let c : count i (freeList q) ≡ count i taken-walk + count i (walk (nextOf q) rest (hop (nextOf q) (length bs) head)) =
-          ap (count i) s ∙ count-append i taken-walk (walk (nextOf q) rest (hop (nextOf q) (length bs) head)) in
-          omega arith
-
-      nexts : nextOf direct ≡ nextOf q
-      nexts = fun-ext (λ i. fill-links (nextOf q) (q .tables .shadow) head bs (λ j. refl) i)
-
-      noted-new : notedOf direct head ≡ length bs
-      noted-new =
-          getD-set-same (q .tables .noted) head (length bs) 0
-          (let b : head < q .n = well .free in let z : q .n ≤ length (q .tables .noted) = f .good .held .noted in omega arith)
-
-      free-once : (i : ℕ) → i < q .n → count i (freeList q) ≤ 1
-      free-once i l =
-          let z : count i (named q) ≡ 1 = well .once .each i l in
-          let y : count i (named q) ≡ count i (freeList q) + count i (walks (nextOf q) (notedOf q) (q .n) 0) =
-          count-append i (freeList q) (walks (nextOf q) (notedOf q) (q .n) 0) in
-          omega arith
-
-      desc-new : (j : ℕ) → j < length bs
-          → descOf direct (hop (nextOf q) j head) ≡ filled (getD bs j noBuffer) (more? (drop (suc j) bs)) (nextOf q (hop (nextOf q) j head))
-      desc-new =
-          fill-at (nextOf q) (q .n) (q .tables .shadow) head bs (f .good .held .shadow) (λ j. refl)
-          (walk-below (nextOf q) (q .n) (well .nexts) (length bs) head (well .free))
-          (λ i l. let z = free-once i l in let y = taken-count i in omega arith)
-
       direct-opened : Opened (direct .counts) (direct .tables)
       direct-opened = record {
         avail = refl;
@@ -209,12 +168,13 @@ module _ (base : ℕ) (q : Queue) (m : Memory) (d : Device) (g : Notes) (f : Fac
         noted = λ h z. getD-set-other (q .tables .noted) head h (length bs) 0 z;
         chain = λ h o. (
           direct-others q bs (f .good .held) well a x h o .0,
-          fill-other (nextOf q) (q .tables .shadow) head bs (λ j. refl) h (let z = taken-count h in let y = out-used h o in omega arith),
+          fill-other (nextOf q) (q .tables .shadow) head bs (λ j. refl) h (let z = taken-free q bs (f .good .held) well a x h in let y = out-used h o in omega arith),
         );
         flags = λ i j l.
-            let b : j < length bs = subst (λ z. j < z) noted-new l in
+            let b : j < length bs = subst (λ z. j < z) (noted-new q bs (f .good .held) well a x) l in
             let e : descOf direct (hop (nextOf direct) j head) .flags ≡ flagsOf (more? (drop (suc j) bs)) (getD bs j noBuffer .output) false =
-            ap (λ (z : ℕ → ℕ). descOf direct (hop z j head) .flags) nexts ∙ ap (λ (z : Desc). z .flags) (desc-new j b) in
+            ap (λ (z : ℕ → ℕ). descOf direct (hop z j head) .flags) (nexts q bs (f .good .held) well a x)
+            ∙ ap (λ (z : Desc). z .flags) (desc-new q bs (f .good .held) well a x j b) in
             subst (λ z. z < 4) (sym e) (flags-low (more? (drop (suc j) bs)) (getD bs j noBuffer .output));
       }
 

@@ -7,9 +7,9 @@ use native.Mathlib.Omega.{arith}
 use borrow.Author.Tests.{lt-ltb, eqb-true, eqb-false, eq-eqb, ltb-true}
 use lib.Dec.{ltb, eqb}
 use lib.Seq.{getD-set-other}
-use Rattle.lists.specs.Tests.{by-test, by-eq}
+use Rattle.lists.specs.Tests.{by-test, by-eq, either}
 use Rattle.lists.specs.Index.{after, after-counts}
-use Rattle.lists.specs.Once.{mem, count}
+use Rattle.lists.specs.Once.{count}
 use Rattle.lists.specs.Places.{InFront, InWalk, placed}
 use Rattle.lists.specs.Walk.{hop, hop-below}
 use Rattle.lists.specs.WalkLaws.{hop-counted}
@@ -52,11 +52,8 @@ module _ (base : ℕ) (q : Queue) (m : Memory) (d : Device) (g : Notes) (f : Fac
   react-good : (c : Open) → q .call ≡ c → (v : ℕ) → Good (react q c v .queue)
   react-good c e v = record { held = held-react q (f .good .held) c v; well = react-keeps q (f .good .held) well c e v }
 
-  either : (b : Bool) (x y : Reaction) (x′ : Memory) → (b ≡ true → Good (x .queue) → Left (x .queue) x′)
-      → (b ≡ false → Good (y .queue) → Left (y .queue) x′) → Good (cond b x y .queue)
-      → Left (cond b x y .queue) x′
-  either true x y x′ s t k = s refl k
-  either false x y x′ s t k = t refl k
+  abbrev Leaves : Memory → Reaction → Type 0
+  Leaves x r = Good (r .queue) → Left (r .queue) x
 
   -- ---- the loads of idx
 
@@ -75,7 +72,7 @@ module _ (base : ℕ) (q : Queue) (m : Memory) (d : Device) (g : Notes) (f : Fac
       → Good (cond (eqb (num q used-idx m) (q .counts .last)) (ends q v 0) (goesOn q o) .queue)
       → Left (cond (eqb (num q used-idx m) (q .counts .last)) (ends q v 0) (goesOn q o) .queue) m
   idx-left c o e v a k =
-      either (eqb (num q used-idx m) (q .counts .last)) (ends q v 0) (goesOn q o) m
+      either (Leaves m) (eqb (num q used-idx m) (q .counts .last)) (ends q v 0) (goesOn q o)
       (λ z y. idle-left y)
       (λ z y. (g, called base q m d g f o y (a (some-used z)))) k
 
@@ -150,13 +147,13 @@ module _ (base : ℕ) (q : Queue) (m : Memory) (d : Device) (g : Notes) (f : Fac
 
     popped-left : (len : ℕ) → Good (popped q t len .queue) → Left (popped q t len .queue) m
     popped-left len k =
-        either (eqb (storeSteps q (storedCount q t)) 0) _ _ m (λ z y. freed-left Idle y tt)
+        either (Leaves m) (eqb (storeSteps q (storedCount q t)) 0) _ _ (λ z y. freed-left Idle y tt)
         (λ z y. freed-left (PopStore (storedCount q t) 0 len) y tt) k
 
   length-left : (t : ℕ) (b : Bool) (x v : ℕ) → q .call ≡ PopLen t b x → Good (react q (PopLen t b x) v .queue)
       → Left (react q (PopLen t b x) v .queue) m
   length-left t b x v e k =
-      either (eqb (verdict q t b x) 0) _ _ m (λ z y. popped-left t b x e (eqb-true (verdict q t b x) 0 z) v y) (λ z y. idle-left y) k
+      either (Leaves m) (eqb (verdict q t b x) 0) _ _ (λ z y. popped-left t b x e (eqb-true (verdict q t b x) 0 z) v y) (λ z y. idle-left y) k
 
   -- ---- the stores
 
@@ -211,7 +208,7 @@ module _ (base : ℕ) (q : Queue) (m : Memory) (d : Device) (g : Notes) (f : Fac
 
     store-left : Left (react q (PopStore k i l) 0 .queue) (accessed q (popAccess q k i) m)
     store-left =
-        either (ltb (i + 1) (storeSteps q k)) _ _ (accessed q (popAccess q k i) m)
+        either (Leaves (accessed q (popAccess q k i) m)) (ltb (i + 1) (storeSteps q k)) _ _
         (λ z y. (g, store-facts (PopStore k (i + 1) l) y (λ x. tt)))
         (λ z y. (g, store-facts Idle y (λ x. tt)))
         (react-good (PopStore k i l) e 0)

@@ -3,12 +3,12 @@ use mathlib.Core.Path.{refl}
 use mathlib.Core.Bool.{Bool, true, false, cond}
 use Prim.Native.Nat.{ℕ}
 use lib.Dec.{eqb}
+use Rattle.lists.specs.Tests.{either}
 use Rattle.virtio.specs.Memory.{Memory}
 use Rattle.rules.specs.Record.{Queue}
 use Rattle.rules.specs.Answer.{Outcome, refused, unless}
-use Rattle.rules.specs.Step.{access, loaded, move}
 use Rattle.rules.specs.Calls.{addRefusal, callRefusal, countRefusal, openAdd, openPop, openPeek, canPop, shouldNotify, setDevNotify, availableDesc}
-use Rattle.laws.specs.Regions.{Shaped, react-shaped, add-shaped}
+use Rattle.laws.specs.Regions.{Shaped, add-shaped}
 use Rattle.mixing.specs.Mix.{Call, add, pop-used, peek-used, can-pop, should-notify, available-desc, set-dev-notify, opening}
 
 same-shape : (q : Queue) → Shaped q q
@@ -29,12 +29,5 @@ opening-shaped peek-used q m = unless-shaped (callRefusal q m) q m _ (record { n
 opening-shaped can-pop q m = unless-shaped (callRefusal q m) q m _ (same-shape q)
 opening-shaped should-notify q m = unless-shaped (callRefusal q m) q m _ (same-shape q)
 opening-shaped available-desc q m = unless-shaped (countRefusal q) q m _ (same-shape q)
-opening-shaped (set-dev-notify b) q m = unless-shaped (callRefusal q m) q m _ (either (q .modes .«event_idx») _ _ (same-shape q) (same-shape q))
-  where
-    either : (x : Bool) (o p : Outcome) → Shaped (o .queue) q → Shaped (p .queue) q → Shaped (cond x o p .queue) q
-    either true o p s t = s
-    either false o p s t = t
-
-pub move-shaped : (q : Queue) (m : Memory) → Shaped (move q m .queue) q
-unfolding move
-move-shaped q m = react-shaped q (q .call) (loaded q (access q (q .call)) m)
+opening-shaped (set-dev-notify b) q m = unless-shaped (callRefusal q m) q m _
+    (either (λ (o : Outcome). Shaped (o .queue) q) (q .modes .«event_idx») _ _ (λ e. same-shape q) (λ e. same-shape q))

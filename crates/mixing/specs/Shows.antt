@@ -8,7 +8,7 @@ use native.Mathlib.Decide.{decLe}
 use native.Mathlib.Omega.{arith}
 use Rattle.lists.specs.Tests.{by-eq}
 use Rattle.lists.specs.Index.{ahead, ahead-counts}
-use Rattle.lists.specs.Pick.{one-if, tally}
+use Rattle.lists.specs.Pick.{one-if}
 use Rattle.lists.specs.Once.{count, count-other, Below}
 use Rattle.lists.specs.Walk.{hop, walk-below}
 use Rattle.lists.specs.WalkLaws.{hop-counted}
@@ -22,7 +22,7 @@ use Rattle.rules.specs.WellFormed.{outCount}
 use Rattle.rules.specs.Meaning.{WellFormed, Out}
 use Rattle.laws.specs.WellFormedIs.{out-means}
 use Rattle.laws.specs.FreeLaws.{hop-low}
-use Rattle.laws.specs.StepKeeps.{one-most, power-most}
+use Rattle.laws.specs.StepKeeps.{tally-most, power-most}
 use Rattle.mixing.specs.Device.{Doing, resting, take-idx, take-head, take-chain, complete-id, complete-len, complete-idx, Device}
 use Rattle.mixing.specs.Fields.{num, dsc, Changed, num-kept, dsc-kept}
 use Rattle.mixing.specs.Facts.{adding, taken, offered, isOut, Notes, InChain, TableOk, ListOk, Led, Shown, Blank, Progress, DriverAt, DeviceAt, Facts}
@@ -54,11 +54,6 @@ slots-differ i j n h k e = go (decLe (j / n) (i / n))
 pub used-not-pool : (legacy : Bool) → usedRegion legacy ≡ in-pool → ⊥
 used-not-pool true e = let z : _≡_ {A = ℕ} 0 1 = cc in omega arith
 used-not-pool false e = let z : _≡_ {A = ℕ} 0 1 = cc in omega arith
-
-tally-most : (p : ℕ → Bool) (m i : ℕ) → tally p m i ≤ m
-unfolding tally
-tally-most p zero i = omega arith
-tally-most p (suc m) i = omega (arith, one-most (p i), tally-most p m (suc i))
 
 -- ---- descriptors of chains
 

@@ -65,8 +65,10 @@ single-end = record {
     pool = [];
   };
   device = record { taken = 2; used = 1; holds = 0 ∷ []; doing = resting };
+  made = 4;
   calls = add (buffer ∷ []) ∷ pop-used 0 (buffer ∷ []) ∷ pop-used 0 (buffer ∷ []) ∷ add (buffer ∷ []) ∷ [];
-  answers = record { number = 0; value = 0 } ∷ record { number = 3; value = 0 } ∷ record { number = 0; value = 3 } ∷ record { number = 0; value = 0 } ∷ [];
+  answers = record { number = 0; value = 0; steps = 4 } ∷ record { number = 3; value = 0; steps = 1 } ∷ record { number = 0; value = 3; steps = 5 }
+      ∷ record { number = 0; value = 0; steps = 4 } ∷ [];
   acts = take-next ∷ take-next ∷ complete 0 3 ∷ see-used-event ∷ take-next ∷ see-used-event ∷ take-next ∷ [];
   results = none-available ∷ took 0 (buffer ∷ []) ∷ completed ∷ saw 0 ∷ none-available ∷ saw 1 ∷ took 0 (buffer ∷ []) ∷ [];
 }

@@ -1,6 +1,6 @@
 -- A fresh queue and a fresh device meet the invariant.
 use mathlib.Core.Path.{_≡_, refl, sym, ap, subst, _∙_}
-use mathlib.Core.Bool.{Bool, true, false, not, cond, _&&_, _||_, and-false, false≢true}
+use mathlib.Core.Bool.{Bool, true, false, not, cond, _&&_, _||_, false≢true}
 use mathlib.Core.Logic.{inl, inr}
 use mathlib.Core.List.{List, [], _∷_, map}
 use Prim.Native.Nat.{ℕ, zero, suc, _+_, _-_, _*_, _≤_, _<_}
@@ -11,7 +11,7 @@ use lib.ListN.{length, getD, set, replicate, length-set}
 use lib.Seq.{sets}
 use Rattle.lists.specs.Tests.{by-eq, and-left, and-right, and-both, implied, implies}
 use Rattle.lists.specs.Pick.{Test, _when_}
-use Rattle.lists.specs.PickLaws.{first-none, NoneOf, getD-same}
+use Rattle.lists.specs.PickLaws.{first-none, NoneOf}
 use Rattle.lists.specs.Once.{mem, noDup}
 use Rattle.lists.specs.Bytes.{getLE}
 use Rattle.lists.specs.Stores.{sets-outside}
@@ -20,13 +20,14 @@ use Rattle.virtio.specs.Desc.{putDesc, put-desc-length, put-desc-outside}
 use Rattle.virtio.specs.Layout.{tableSize, availSize, usedSize, availAt, usedAt, needOne, needTwo, needPool}
 use Rattle.virtio.specs.Memory.{Memory, usedRegion, bytesOf, avail-idx, used-idx}
 use Rattle.virtio.specs.Sizes.{legacy-apart}
-use Rattle.rules.specs.Record.{Queue, outstanding, isOpen}
+use Rattle.rules.specs.Record.{Queue, isOpen}
 use Rattle.rules.specs.WellFormed.{sizeOk}
 use Rattle.rules.specs.Answer.{InvalidParam, BadSize, AlreadyUsed, BadRegion}
 use Rattle.rules.specs.Calls.{fits}
-use Rattle.rules.specs.New.{Ask, Made, made, notMade, new, newRefusal, regionsOk, lends, cleared, putDescs, linked, nextsFrom, linking, clearUsed, clearFront, freshMemory, freshQueue, limit}
+use Rattle.rules.specs.New.{Ask, Made, made, notMade, new, newRefusal, regionsOk, lends, cleared, putDescs, linked, nextsFrom, linking, clearUsed, clearFront, freshMemory, freshQueue}
 use Rattle.laws.specs.CallKeeps.{Good}
 use Rattle.laws.specs.NewKeeps.{new-good}
+use Rattle.laws.specs.FreshKeeps.{none-outstanding}
 use Rattle.mixing.specs.Device.{freshDevice}
 use Rattle.mixing.specs.Demand.{start, wiring}
 use Rattle.mixing.specs.Fields.{num}
@@ -192,9 +193,6 @@ module _ (a : Ask) (m : Memory) where
   abbrev noNotes : Notes
   noNotes = record { adds = 0; takes = 0; uses = 0; pops = 0; stage = λ h. none }
 
-  none-outstanding : (h : ℕ) → outstanding q h ≡ false
-  none-outstanding h = ap (λ k. ltb h (a .n) && not (eqb k 0)) (getD-same 0 limit h) ∙ and-false (ltb h (a .n))
-
   fresh-facts : Good q → refusal ≡ 0 → Facts (a .base-pool) q x freshDevice noNotes
   unfolding mem noDup
   fresh-facts k e = record {
@@ -209,7 +207,7 @@ module _ (a : Ask) (m : Memory) where
     given = omega arith;
     offers = omega arith;
     near = omega arith;
-    outs = none-outstanding;
+    outs = none-outstanding a;
     held = λ h z. absurd (false≢true z);
     once = refl;
     many = omega arith;

@@ -10,9 +10,9 @@ use Rattle.virtio.specs.Memory.{Memory, Place}
 use Rattle.rules.specs.Record.{Queue, isOpen}
 use Rattle.rules.specs.Answer.{Outcome, Busy}
 use Rattle.rules.specs.Step.{move}
-use Rattle.rules.specs.Calls.{opened, andThen, step as stepOf}
+use Rattle.rules.specs.Calls.{step as stepOf}
 use Rattle.mixing.specs.Device.{Wiring, Act, Device, Worked, acting, begin, work}
-use Rattle.mixing.specs.Mix.{Call, Event, call, step, act, tick, Trace, opening, drives, works, event}
+use Rattle.mixing.specs.Mix.{Call, Event, call, step, act, tick, Trace, opening, further, drives, works, event}
 use Rattle.mixing.specs.Turns.{Swaps}
 use Rattle.mixing.specs.Whole.{Side, driver, device, driver≢device, whose, busy, sides, Sane, step-idle, tick-idle, call-busy-none, act-busy-none, step-open, tick-open}
 use Rattle.mixing.specs.Fields.{put}
@@ -96,7 +96,7 @@ module _ (w : Wiring) where
       go : (b : Bool) → cond b t (drives (c ∷ []) (opening c (t .queue) (t .memory)) t) .device ≡ t .device
       go true = refl
       go false = refl
-  driver-device step t e = go (busy driver t) (stepOf (t .queue) (t .memory))
+  driver-device step t e = go (busy driver t) (further (t .made) (stepOf (t .queue) (t .memory)))
     where
       go : (b : Bool) (o : Outcome) → cond b (drives [] o t) t .device ≡ t .device
       go true o = refl
@@ -116,15 +116,15 @@ module _ (w : Wiring) where
 
   -- ---- events that do something
 
-  abbrev stepping : Queue → Memory → Outcome
-  stepping q x = andThen (opened q x) (move q x)
+  abbrev stepping : ℕ → Queue → Memory → Outcome
+  stepping k q x = further k (move q x)
 
   call-is : (c : Call) (t : Trace)
       → event w (call c) t ≡ cond (eqb (opening c (t .queue) (t .memory) .answer) Busy) t (drives (c ∷ []) (opening c (t .queue) (t .memory)) t)
   unfolding event
   call-is c t = refl
 
-  act-is : (a : Act) (t : Trace) → busy device t ≡ false → event w (act a) t ≡ works (a ∷ []) (begin w a (t .device) (t .memory)) t
+  pub act-is : (a : Act) (t : Trace) → busy device t ≡ false → event w (act a) t ≡ works (a ∷ []) (begin w a (t .device) (t .memory)) t
   unfolding event
   act-is a t e = rw e
 
@@ -144,10 +144,10 @@ module _ (w : Wiring) where
     abbrev f : Facts (w .base) (t .queue) (t .memory) (t .device) (v .notes)
     f = v .facts
 
-    step-drives : Drives q g m (stepping q)
+    step-drives : Drives q g m (stepping (t .made) q)
     step-drives = record {
       filled = step-filled (w .base) q m d g f;
-      beside = λ o p z c i. ap (λ r. andThen (opened q (put q p z m)) r) (move-onto (w .base) q m d g f o p z c i);
+      beside = λ o p z c i. ap (further (t .made)) (move-onto (w .base) q m d g f o p z c i);
     }
 
     call-drives : (c : Call) → busy driver t ≡ false → Drives q g m (opening c q)
@@ -183,8 +183,8 @@ module _ (w : Wiring) where
         → Does q g m worked → (isOpen (move q m .queue .call) ≡ true) ⊎ (acting (worked m .device .doing) ≡ true)
         → event w y (event w step t) ≡ event w step (event w y t)
     swap-step y began worked r a b k s i =
-        both step y t false [] began (stepping q) worked (step-open w t (sane w t v) r) (step-open w (works began (worked m) t) k r)
-        a (b (stepping q m)) (pair q g m (stepping q) worked step-drives s i)
+        both step y t false [] began (stepping (t .made) q) worked (step-open w t (sane w t v) r) (step-open w (works began (worked m) t) k r)
+        a (b (stepping (t .made) q m)) (pair q g m (stepping (t .made) q) worked step-drives s i)
 
   -- ---- events that do nothing
 

@@ -126,6 +126,7 @@ during t a = record {
   queue = t .queue;
   memory = t .memory;
   device = doing (t .device) a;
+  made = t .made;
   calls = t .calls;
   answers = t .answers;
   acts = t .acts;
@@ -137,6 +138,7 @@ ending t h bs = record {
   queue = t .queue;
   memory = t .memory;
   device = record { taken = after (t .device .taken); used = t .device .used; holds = t .device .holds ++ (h ∷ []); doing = resting };
+  made = t .made;
   calls = t .calls;
   answers = t .answers;
   acts = t .acts;
@@ -149,6 +151,7 @@ beginning t = record {
   queue = t .queue;
   memory = t .memory;
   device = t .device;
+  made = t .made;
   calls = t .calls;
   answers = t .answers;
   acts = t .acts ++ (take-next ∷ []);
@@ -171,6 +174,7 @@ module _ (w : Wiring) where
         queue = t .queue;
         memory = t .memory;
         device = doing (t .device) b;
+        made = t .made;
         calls = t .calls;
         answers = t .answers;
         acts = x;
@@ -187,6 +191,7 @@ module _ (w : Wiring) where
         queue = t .queue;
         memory = t .memory;
         device = ending t h bs .device;
+        made = t .made;
         calls = t .calls;
         answers = t .answers;
         acts = x;
@@ -367,6 +372,7 @@ module _ (w : Wiring) where
         queue = t .queue;
         memory = t .memory;
         device = doing (t .device) take-idx;
+        made = t .made;
         calls = t .calls;
         answers = t .answers;
         acts = t .acts ++ (take-next ∷ []);

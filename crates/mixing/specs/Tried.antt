@@ -6,30 +6,15 @@ use mathlib.Core.List.{List, [], _∷_, _++_, map}
 use Prim.Native.Nat.{ℕ, zero, suc}
 use lib.Dec.{eqb}
 use lib.ListN.{replicate, length}
-use Rattle.virtio.specs.declared.Buffer.{Buffer}
-use Rattle.virtio.specs.Memory.{Memory}
-use Rattle.rules.specs.declared.Modes.{Modes}
-use Rattle.rules.specs.New.{Ask, new}
 use Rattle.rules.specs.Record.{isOpen}
 use Rattle.rules.specs.Computing.{computing}
 use Rattle.mixing.specs.Device.{acting, Act, take-next, complete, Result, none-available, not-taken, completed, stored, took, saw, without}
 use Rattle.mixing.specs.Mix.{Call, add, pop-used, Event, call, step, act, tick, Answer, Trace, event, trace}
-use Rattle.mixing.specs.Demand.{Whole, whole-call, whole-act, inTurn, start, wiring}
-
-abbrev pub ask : Ask
-ask = record { n = 2; in-use = false; most = 2; modes = record { indirect = false; «event_idx» = false; legacy = false }; base-one = 0; base-two = 4096; base-pool = 8192 }
-
-abbrev pub lent : Memory
-lent = record { one = replicate 42 0; two = replicate 22 0; pool = replicate 64 0 }
+use Rattle.mixing.specs.Demand.{Whole, whole-call, whole-act, inTurn}
+use Rattle.mixing.specs.Mixings.{direct, run, input, output}
 
 abbrev pub mix : List Event → Trace
-mix es = trace (wiring ask) es (start (new ask lent))
-
-abbrev pub input : Buffer
-input = record { addr = 4096; len = 10; output = false }
-
-abbrev pub output : Buffer
-output = record { addr = 8192; len = 20; output = true }
+mix es = run direct es
 
 unfoldable pub inter : ℕ → List Whole → List Whole → List (List Whole)
 inter zero xs ys = []
@@ -51,7 +36,7 @@ results-code (r ∷ rs) = told r ++ results-code rs
 
 unfoldable pub answers-code : List Answer → List ℕ
 answers-code [] = []
-answers-code (r ∷ rs) = (r .number ∷ r .value ∷ []) ++ answers-code rs
+answers-code (r ∷ rs) = (r .number ∷ r .value ∷ r .steps ∷ []) ++ answers-code rs
 
 abbrev pub code : Trace → List ℕ
 code t = answers-code (t .answers) ++ (999 ∷ results-code (t .results))

@@ -1,14 +1,11 @@
 -- A REDUCTION for sides in general, however many they are. Each side makes events, and has at most one operation open. Where an event that leaves its side's
--- operation open may change places with an event of any other side that follows it, every list of events that leaves nothing open leaves what some list of
--- turns leaves, one after the other: in a turn one side alone makes events, and at its end nothing is open. So each operation takes effect at its last event.
--- Demand 3 has two sides; a device of two workers would make three.
-use mathlib.Core.Path.{_≡_, refl, sym, ap, subst, _∙_}
-use mathlib.Core.Bool.{Bool, true, false, true≢false}
+-- operation open may change places with an event of any other side that follows it, every list of events that leaves nothing open leaves what its turns
+-- leave, one after the other: a turn is one operation, made by one side alone from a moment when nothing is open, and the turns stand in the order of
+-- their last events. So each operation takes effect at its last event. Demand 3 has two sides; a device of two workers would make three.
+use mathlib.Core.Path.{_≡_, refl, sym, ap, ap₂, subst, _∙_}
+use mathlib.Core.Bool.{Bool, true, false, cond, true≢false}
 use mathlib.Core.Logic.{_⊎_, inl, inr}
-use mathlib.Core.List.{List, [], _∷_, _++_}
-use Prim.Native.Nat.{ℕ, zero, suc, _+_, _≤_}
-use native.Mathlib.Omega.{arith}
-use lib.ListN.{length, length-append}
+use mathlib.Core.List.{List, [], _∷_, _++_, append-nil, append-assoc}
 use Rattle.lists.specs.Tests.{by-test}
 
 -- Sides, their events, and the state that all share: whose an event is, what it does, and whether a side has an operation open.
@@ -47,42 +44,87 @@ module _ (Y : Sides) where
   abbrev pub Quiet : Y .State → Type 0
   Quiet t = (i : Y .Side) → Y .isOpen i t ≡ false
 
-  -- THE CONCLUSION: turns, one after the other, lead from t to u; nothing is open between them
-  pub data Turns (u : Y .State) : Y .State → Type 0 where
-    end : Turns u u
-    turn : {t : Y .State} (i : Y .Side) (es : List (Y .Event)) → Own i es → Quiet (events es t) → Turns u (events es t) → Turns u t
-
   -- each event leaves its side's operation open
-  abbrev Inner : List (Y .Event) → Y .State → Type 0
+  abbrev pub Inner : List (Y .Event) → Y .State → Type 0
   Inner [] t = Unit {0}
   Inner (e ∷ es) t = (Y .isOpen (Y .whose e) (Y .event e t) ≡ true) × Inner es (Y .event e t)
 
+  -- side i's events of a list, and those of all others
+  abbrev pub ours : {i j : Y .Side} → (i ≡ j) ⊎ (i ≡ j → ⊥) → Y .Event → List (Y .Event) → List (Y .Event)
+  ours (inl e) x xs = x ∷ xs
+  ours (inr d) x xs = xs
+
+  abbrev pub theirs : {i j : Y .Side} → (i ≡ j) ⊎ (i ≡ j → ⊥) → Y .Event → List (Y .Event) → List (Y .Event)
+  theirs (inl e) x xs = xs
+  theirs (inr d) x xs = x ∷ xs
+
+  abbrev pub mine : Y .Side → List (Y .Event) → List (Y .Event)
+  mine i [] = []
+  mine i (x ∷ xs) = ours (Y .same (Y .whose x) i) x (mine i xs)
+
+  abbrev pub rest : Y .Side → List (Y .Event) → List (Y .Event)
+  rest i [] = []
+  rest i (x ∷ xs) = theirs (Y .same (Y .whose x) i) x (rest i xs)
+
+  -- ---- turns
+
+  -- a turn: the events of an operation, the last of them by itself
+  pub record Turn : Type 0 where
+    pub before : List (Y .Event)
+    pub last : Y .Event
+
+  abbrev pub eventsOf : Turn → List (Y .Event)
+  eventsOf r = r .before ++ (r .last ∷ [])
+
+  abbrev pub eventsIn : List Turn → List (Y .Event)
+  eventsIn [] = []
+  eventsIn (r ∷ rs) = eventsOf r ++ eventsIn rs
+
+  -- WHAT A TURN IS: from t on one side alone makes its events; all but the last leave its operation open, and the last leaves nothing open
+  pub record Whole-turn (r : Turn) (t : Y .State) : Type 0 where
+    pub own : Own (Y .whose (r .last)) (r .before)
+    pub inner : Inner (r .before) t
+    pub quiet : Quiet (events (eventsOf r) t)
+
+  -- turns, one after the other, lead from t to u
+  abbrev pub Turned : List Turn → Y .State → Y .State → Type 0
+  Turned [] t u = t ≡ u
+  Turned (r ∷ rs) t u = Whole-turn r t × Turned rs (events (eventsOf r) t) u
+
+  -- THE TURNS of a list of events, by their last events: at t the operations that are open have made the events p so far
+  unfoldable pub turns : List (Y .Event) → List (Y .Event) → Y .State → List Turn
+  turns p [] t = []
+  turns p (e ∷ es) t =
+      let u : Y .State = Y .event e t in
+      let going : List Turn = turns (p ++ (e ∷ [])) es u in
+      let later : List Turn = turns (rest (Y .whose e) p) es u in
+      cond (Y .isOpen (Y .whose e) u) going (record { before = mine (Y .whose e) p; last = e } ∷ later)
+
+  -- THE CONCLUSION: from t to u the turns ts lead, and each side's events stand in them in that side's own order
+  pub record Ordered (es : List (Y .Event)) (ts : List Turn) (t u : Y .State) : Type 0 where
+    pub turned : Turned ts t u
+    pub kept : (j : Y .Side) → mine j (eventsIn ts) ≡ mine j es
+
   -- ---- lists of events
 
-  events-append : (xs ys : List (Y .Event)) (t : Y .State) → events (xs ++ ys) t ≡ events ys (events xs t)
+  pub events-append : (xs ys : List (Y .Event)) (t : Y .State) → events (xs ++ ys) t ≡ events ys (events xs t)
   events-append [] ys t = refl
   events-append (x ∷ xs) ys t = events-append xs ys (Y .event x t)
+
+  -- what every event keeps, they keep
+  pub events-keep : (Inv : Y .State → Type 0) → ((e : Y .Event) (t : Y .State) → Inv t → Inv (Y .event e t)) → (es : List (Y .Event)) (t : Y .State)
+      → Inv t → Inv (events es t)
+  events-keep Inv keeps [] t v = v
+  events-keep Inv keeps (e ∷ es) t v = events-keep Inv keeps es (Y .event e t) (keeps e t v)
 
   own-append : (i : Y .Side) (xs ys : List (Y .Event)) → Own i xs → Own i ys → Own i (xs ++ ys)
   own-append i [] ys a b = b
   own-append i (x ∷ xs) ys a b = (a .0, own-append i xs ys (a .1) b)
 
-  -- side i's events of a list, and those of all others
-  abbrev ours : {i j : Y .Side} → (i ≡ j) ⊎ (i ≡ j → ⊥) → Y .Event → List (Y .Event) → List (Y .Event)
-  ours (inl e) x xs = x ∷ xs
-  ours (inr d) x xs = xs
-
-  abbrev theirs : {i j : Y .Side} → (i ≡ j) ⊎ (i ≡ j → ⊥) → Y .Event → List (Y .Event) → List (Y .Event)
-  theirs (inl e) x xs = xs
-  theirs (inr d) x xs = x ∷ xs
-
-  abbrev mine : Y .Side → List (Y .Event) → List (Y .Event)
-  mine i [] = []
-  mine i (x ∷ xs) = ours (Y .same (Y .whose x) i) x (mine i xs)
-
-  abbrev rest : Y .Side → List (Y .Event) → List (Y .Event)
-  rest i [] = []
-  rest i (x ∷ xs) = theirs (Y .same (Y .whose x) i) x (rest i xs)
+  inner-append : (xs : List (Y .Event)) (e : Y .Event) (t : Y .State) → Inner xs t → Y .isOpen (Y .whose e) (Y .event e (events xs t)) ≡ true
+      → Inner (xs ++ (e ∷ [])) t
+  inner-append [] e t n o = (o, tt)
+  inner-append (x ∷ xs) e t n o = (n .0, inner-append xs e (Y .event x t) (n .1) o)
 
   mine-own : (i : Y .Side) (xs : List (Y .Event)) → Own i (mine i xs)
   mine-own i [] = tt
@@ -100,126 +142,214 @@ module _ (Y : Sides) where
       go (inl e) o = o
       go (inr n) o = (n, o)
 
-  rest-length : (i : Y .Side) (xs : List (Y .Event)) → length (rest i xs) ≤ length xs
-  rest-length i [] = omega arith
-  rest-length i (x ∷ xs) = go (Y .same (Y .whose x) i) (rest-length i xs)
-    where
-      go : (d : (Y .whose x ≡ i) ⊎ (Y .whose x ≡ i → ⊥)) → length (rest i xs) ≤ length xs → length (theirs d x (rest i xs)) ≤ suc (length xs)
-      go (inl e) l = omega arith
-      go (inr n) l = omega arith
-
-  -- ---- the first event that leaves its side at rest
-
-  data Cut (es : List (Y .Event)) (t : Y .State) : Type 0 where
-    none : Inner es t → Cut es t
-    at : (before : List (Y .Event)) (e : Y .Event) (behind : List (Y .Event)) → es ≡ before ++ (e ∷ behind) → Inner before t
-        → Y .isOpen (Y .whose e) (Y .event e (events before t)) ≡ false → Cut es t
-
-  cut : (es : List (Y .Event)) (t : Y .State) → Cut es t
-  cut [] t = none tt
-  cut (e ∷ es) t =
-      by-test (Y .isOpen (Y .whose e) (Y .event e t)) (λ o. later o (cut es (Y .event e t))) (λ c. at [] e es refl tt c)
-    where
-      later : Y .isOpen (Y .whose e) (Y .event e t) ≡ true → Cut es (Y .event e t) → Cut (e ∷ es) t
-      later o (none i) = none (o, i)
-      later o (at before x behind p i c) = at (e ∷ before) x behind (ap (λ z. e ∷ z) p) (o, i) c
+  own-others : (i j : Y .Side) (es : List (Y .Event)) → (i ≡ j → ⊥) → Own i es → Others j es
+  own-others i j [] d o = tt
+  own-others i j (e ∷ es) d o = ((λ p. d (sym (o .0) ∙ p)), own-others i j es d (o .1))
 
   -- where each event leaves its side's operation open, one is open at the end
   still-open : (e : Y .Event) (es : List (Y .Event)) (t : Y .State) → Inner (e ∷ es) t → Quiet (events (e ∷ es) t) → ⊥
   still-open e [] t i q = true≢false (sym (i .0) ∙ q (Y .whose e))
   still-open e (x ∷ es) t i q = still-open x es (Y .event e t) (i .1) q
 
-module _ (Y : Sides) (Inv : Y .State → Type 0) (h : Swaps Y Inv) where
-  events-keep : (es : List (Y .Event)) (t : Y .State) → Inv t → Inv (events Y es t)
-  events-keep [] t v = v
-  events-keep (e ∷ es) t v = events-keep es (Y .event e t) (h .keeps e t v)
+  -- ---- each side's own order
 
+  mine-append : (j : Y .Side) (xs ys : List (Y .Event)) → mine j (xs ++ ys) ≡ mine j xs ++ mine j ys
+  mine-append j [] ys = refl
+  mine-append j (x ∷ xs) ys = go (Y .same (Y .whose x) j) (mine-append j xs ys)
+    where
+      go : (d : (Y .whose x ≡ j) ⊎ (Y .whose x ≡ j → ⊥)) → mine j (xs ++ ys) ≡ mine j xs ++ mine j ys
+          → ours d x (mine j (xs ++ ys)) ≡ ours d x (mine j xs) ++ mine j ys
+      go (inl e) h = ap (λ z. x ∷ z) h
+      go (inr n) h = h
+
+  mine-all : (j : Y .Side) (xs : List (Y .Event)) → Own j xs → mine j xs ≡ xs
+  mine-all j [] o = refl
+  mine-all j (x ∷ xs) o = go (Y .same (Y .whose x) j) (mine-all j xs (o .1))
+    where
+      go : (d : (Y .whose x ≡ j) ⊎ (Y .whose x ≡ j → ⊥)) → mine j xs ≡ xs → ours d x (mine j xs) ≡ x ∷ xs
+      go (inl e) h = ap (λ z. x ∷ z) h
+      go (inr n) h = absurd (n (o .0))
+
+  mine-none : (j : Y .Side) (xs : List (Y .Event)) → Others j xs → mine j xs ≡ []
+  mine-none j [] o = refl
+  mine-none j (x ∷ xs) o = go (Y .same (Y .whose x) j) (mine-none j xs (o .1))
+    where
+      go : (d : (Y .whose x ≡ j) ⊎ (Y .whose x ≡ j → ⊥)) → mine j xs ≡ [] → ours d x (mine j xs) ≡ []
+      go (inl e) h = absurd (o .0 e)
+      go (inr n) h = h
+
+  -- another side's events are among those that are not side i's
+  mine-rest : (i j : Y .Side) (xs : List (Y .Event)) → (i ≡ j → ⊥) → mine j (rest i xs) ≡ mine j xs
+  mine-rest i j [] n = refl
+  mine-rest i j (x ∷ xs) n = go (Y .same (Y .whose x) i) (mine-rest i j xs n)
+    where
+      go : (d : (Y .whose x ≡ i) ⊎ (Y .whose x ≡ i → ⊥)) → mine j (rest i xs) ≡ mine j xs → mine j (theirs d x (rest i xs)) ≡ mine j (x ∷ xs)
+      go (inl e) h = h ∙ sym (mine-append j (x ∷ []) xs ∙ ap (λ z. z ++ mine j xs) (mine-none j (x ∷ []) ((λ p. n (sym e ∙ p)), tt)))
+      go (inr d) h = ap (ours (Y .same (Y .whose x) j) x) h
+
+  -- side i's first and then all others: to each side its own order is the same
+  apart-kept : (i j : Y .Side) (xs : List (Y .Event)) → (i ≡ j) ⊎ (i ≡ j → ⊥) → mine j (mine i xs) ++ mine j (rest i xs) ≡ mine j xs
+  apart-kept i j xs (inl p) =
+      subst (λ z. mine z (mine i xs) ++ mine z (rest i xs) ≡ mine z xs) p
+      (ap (λ z. mine i (mine i xs) ++ z) (mine-none i (rest i xs) (rest-others i xs)) ∙ append-nil (mine i (mine i xs))
+      ∙ mine-all i (mine i xs) (mine-own i xs))
+  apart-kept i j xs (inr n) =
+      ap (λ z. z ++ mine j (rest i xs)) (mine-none j (mine i xs) (own-others i j (mine i xs) n (mine-own i xs))) ∙ mine-rest i j xs n
+
+  rest-last : (i : Y .Side) (xs : List (Y .Event)) (e : Y .Event) → Y .whose e ≡ i → rest i (xs ++ (e ∷ [])) ≡ rest i xs
+  rest-last i [] e p = go (Y .same (Y .whose e) i)
+    where
+      go : (d : (Y .whose e ≡ i) ⊎ (Y .whose e ≡ i → ⊥)) → theirs d e [] ≡ []
+      go (inl q) = refl
+      go (inr n) = absurd (n p)
+  rest-last i (x ∷ xs) e p = ap (theirs (Y .same (Y .whose x) i) x) (rest-last i xs e p)
+
+  -- a turn comes to its end, and all others are left
+  turn-kept : (j : Y .Side) (e : Y .Event) (p es later : List (Y .Event)) → mine j later ≡ mine j (rest (Y .whose e) p ++ es)
+      → mine j ((mine (Y .whose e) p ++ (e ∷ [])) ++ later) ≡ mine j (p ++ (e ∷ es))
+  turn-kept j e p es later h =
+      let i : Y .Side = Y .whose e in
+      let xs : List (Y .Event) = p ++ (e ∷ []) in
+      let a : mine i xs ≡ mine i p ++ (e ∷ []) = mine-append i p (e ∷ []) ∙ ap (λ z. mine i p ++ z) (mine-all i (e ∷ []) (refl, tt)) in
+      mine-append j (mine i p ++ (e ∷ [])) later
+      ∙ ap (λ z. mine j (mine i p ++ (e ∷ [])) ++ z) (h ∙ mine-append j (rest i p) es)
+      ∙ ap₂ (λ x y. mine j x ++ (mine j y ++ mine j es)) (sym a) (sym (rest-last i p e refl))
+      ∙ sym (append-assoc (mine j (mine i xs)) (mine j (rest i xs)) (mine j es))
+      ∙ ap (λ z. z ++ mine j es) (apart-kept i j xs (Y .same i j))
+      ∙ sym (mine-append j xs es)
+      ∙ ap (mine j) (append-assoc p (e ∷ []) es)
+
+module _ (Y : Sides) (Inv : Y .State → Type 0) (h : Swaps Y Inv) where
   -- events of others open and close nothing of side i
   others-apart : (i : Y .Side) (es : List (Y .Event)) (t : Y .State) → Inv t → Others Y i es → Y .isOpen i (events Y es t) ≡ Y .isOpen i t
   others-apart i [] t v o = refl
   others-apart i (e ∷ es) t v o = others-apart i es (Y .event e t) (h .keeps e t v) (o .1) ∙ h .apart e i t v (o .0)
 
-  own-others : (i j : Y .Side) (es : List (Y .Event)) → (i ≡ j → ⊥) → Own Y i es → Others Y j es
-  own-others i j [] d o = tt
-  own-others i j (e ∷ es) d o = ((λ p. d (sym (o .0) ∙ p)), own-others i j es d (o .1))
+  -- ---- an event p that leaves its side's operation open, and events of another side behind it
 
-  -- an event that leaves its side's operation open goes past a list of events of another side
-  past : (p : Y .Event) (i : Y .Side) (xs : List (Y .Event)) (t : Y .State) → Inv t → (Y .whose p ≡ i → ⊥) → Own Y i xs
-      → Y .isOpen (Y .whose p) (Y .event p t) ≡ true
-      → events Y xs (Y .event p t) ≡ Y .event p (events Y xs t)
-  past p i [] t v d o l = refl
-  past p i (x ∷ xs) t v d o l =
-      let n : (Y .whose p ≡ Y .whose x → ⊥) = λ z. d (z ∙ o .0) in
-      let s : Y .event x (Y .event p t) ≡ Y .event p (Y .event x t) = h .swaps p x t v n l in
-      let k : Y .isOpen (Y .whose p) (Y .event p (Y .event x t)) ≡ true =
-      ap (Y .isOpen (Y .whose p)) (sym s) ∙ h .apart x (Y .whose p) (Y .event p t) (h .keeps p t v) (λ z. n (sym z)) ∙ l in
-      ap (events Y xs) s ∙ past p i xs (Y .event x t) (h .keeps x t v) d (o .1) k
+  module _ (p : Y .Event) (i : Y .Side) (d : Y .whose p ≡ i → ⊥) where
+    abbrev Leaves : Y .State → Type 0
+    Leaves t = Y .isOpen (Y .whose p) (Y .event p t) ≡ true
 
-  -- so all events before e go past side i's, whose e is: side i's come first, then e, and then all others
+    swap : (x : Y .Event) (t : Y .State) → Inv t → Y .whose x ≡ i → Leaves t → Y .event x (Y .event p t) ≡ Y .event p (Y .event x t)
+    swap x t v o l = h .swaps p x t v (λ z. d (z ∙ o)) l
+
+    leaves-on : (x : Y .Event) (t : Y .State) → Inv t → Y .whose x ≡ i → Leaves t → Leaves (Y .event x t)
+    leaves-on x t v o l =
+        ap (Y .isOpen (Y .whose p)) (sym (swap x t v o l)) ∙ h .apart x (Y .whose p) (Y .event p t) (h .keeps p t v) (λ z. d (sym z ∙ o)) ∙ l
+
+    -- it goes past them
+    past : (xs : List (Y .Event)) (t : Y .State) → Inv t → Own Y i xs → Leaves t → events Y xs (Y .event p t) ≡ Y .event p (events Y xs t)
+    past [] t v o l = refl
+    past (x ∷ xs) t v o l =
+        ap (events Y xs) (swap x t v (o .0) l) ∙ past xs (Y .event x t) (h .keeps x t v) (o .1) (leaves-on x t v (o .0) l)
+
+    -- it leaves its operation open there too
+    past-leaves : (xs : List (Y .Event)) (t : Y .State) → Inv t → Own Y i xs → Leaves t → Leaves (events Y xs t)
+    past-leaves [] t v o l = l
+    past-leaves (x ∷ xs) t v o l = past-leaves xs (Y .event x t) (h .keeps x t v) (o .1) (leaves-on x t v (o .0) l)
+
+    -- and they leave open without it what they leave open behind it
+    inner-without : (xs : List (Y .Event)) (t : Y .State) → Inv t → Own Y i xs → Leaves t → Inner Y xs (Y .event p t) → Inner Y xs t
+    inner-without [] t v o l n = tt
+    inner-without (x ∷ xs) t v o l n =
+        let s : Y .event x (Y .event p t) ≡ Y .event p (Y .event x t) = swap x t v (o .0) l in (
+          sym (h .apart p (Y .whose x) (Y .event x t) (h .keeps x t v) (λ z. d (z ∙ o .0))) ∙ ap (Y .isOpen (Y .whose x)) (sym s) ∙ n .0,
+          inner-without xs (Y .event x t) (h .keeps x t v) (o .1) (leaves-on x t v (o .0) l) (subst (Inner Y xs) s (n .1)),
+        )
+
+  -- ---- e is side i's, and all events before it leave their operations open: side i's come first, then e, and then all others
+
+  record Gathered (e : Y .Event) (xs first later : List (Y .Event)) (t : Y .State) : Type 0 where
+    gathers : Y .event e (events Y xs t) ≡ events Y later (events Y (first ++ (e ∷ [])) t)
+    first-inner : Inner Y first t
+    later-inner : Inner Y later (events Y (first ++ (e ∷ [])) t)
+
   gather : (i : Y .Side) (e : Y .Event) (xs : List (Y .Event)) (t : Y .State) → Inv t → Y .whose e ≡ i → Inner Y xs t
-      → Y .event e (events Y xs t) ≡ events Y (rest Y i xs) (events Y (mine Y i xs ++ (e ∷ [])) t)
-  gather i e [] t v p n = refl
+      → Gathered e xs (mine Y i xs) (rest Y i xs) t
+  gather i e [] t v p n = record { gathers = refl; first-inner = tt; later-inner = tt }
   gather i e (x ∷ xs) t v p n = go (Y .same (Y .whose x) i) (gather i e xs (Y .event x t) (h .keeps x t v) p (n .1))
     where
-      go : (d : (Y .whose x ≡ i) ⊎ (Y .whose x ≡ i → ⊥))
-          → Y .event e (events Y xs (Y .event x t)) ≡ events Y (rest Y i xs) (events Y (mine Y i xs ++ (e ∷ [])) (Y .event x t))
-          → Y .event e (events Y xs (Y .event x t)) ≡ events Y (theirs Y d x (rest Y i xs)) (events Y (ours Y d x (mine Y i xs) ++ (e ∷ [])) t)
-      go (inl q) ih = ih
-      go (inr d) ih =
-          ih ∙ ap (events Y (rest Y i xs))
-          (past x i (mine Y i xs ++ (e ∷ [])) t v d (own-append Y i (mine Y i xs) (e ∷ []) (mine-own Y i xs) (p, tt)) (n .0))
+      go : (d : (Y .whose x ≡ i) ⊎ (Y .whose x ≡ i → ⊥)) → Gathered e xs (mine Y i xs) (rest Y i xs) (Y .event x t)
+          → Gathered e (x ∷ xs) (ours Y d x (mine Y i xs)) (theirs Y d x (rest Y i xs)) t
+      go (inl q) g = record { gathers = g .gathers; first-inner = (n .0, g .first-inner); later-inner = g .later-inner }
+      go (inr d) g =
+          let first : List (Y .Event) = mine Y i xs ++ (e ∷ []) in
+          let own : Own Y i first = own-append Y i (mine Y i xs) (e ∷ []) (mine-own Y i xs) (p, tt) in
+          let s : events Y first (Y .event x t) ≡ Y .event x (events Y first t) = past x i d first t v own (n .0) in
+          record {
+            gathers = g .gathers ∙ ap (events Y (rest Y i xs)) s;
+            first-inner = inner-without x i d (mine Y i xs) t v (mine-own Y i xs) (n .0) (g .first-inner);
+            later-inner = (past-leaves x i d first t v own (n .0), subst (Inner Y (rest Y i xs)) s (g .later-inner));
+          }
 
   -- a turn of side i that leaves it at rest leaves all at rest, where all were before
   closed : (t : Y .State) (i j : Y .Side) (es : List (Y .Event)) → Inv t → Quiet Y t → Own Y i es → Y .isOpen i (events Y es t) ≡ false
       → (i ≡ j) ⊎ (i ≡ j → ⊥)
       → Y .isOpen j (events Y es t) ≡ false
   closed t i j es v q o c (inl e) = subst (λ z. Y .isOpen z (events Y es t) ≡ false) e c
-  closed t i j es v q o c (inr d) = others-apart j es t v (own-others i j es d o) ∙ q j
+  closed t i j es v q o c (inr d) = others-apart j es t v (own-others Y i j es d o) ∙ q j
 
-  -- what is left to do after the first turn, for a way of doing it for any list that is shorter
-  after-first : (k : ℕ) (es : List (Y .Event)) (t : Y .State) → length es ≤ suc k → Inv t → Quiet Y t → Quiet Y (events Y es t)
-      → ((later : List (Y .Event)) (u : Y .State) → length later ≤ k → Inv u → Quiet Y u → Quiet Y (events Y later u) → Turns Y (events Y later u) u)
-      → (before : List (Y .Event)) (e : Y .Event) (behind : List (Y .Event)) → es ≡ before ++ (e ∷ behind) → Inner Y before t
-      → Y .isOpen (Y .whose e) (Y .event e (events Y before t)) ≡ false → Turns Y (events Y es t) t
-  after-first k es t l v q r ih before e behind p n c =
+  -- ---- the reduction, with the events p made by the operations that are open
+
+  at-end : (p : List (Y .Event)) (t : Y .State) → Inner Y p t → Quiet Y (events Y p t) → Ordered Y (p ++ []) [] t (events Y p t)
+  at-end [] t n r = record { turned = refl; kept = λ j. refl }
+  at-end (x ∷ xs) t n r = absurd (still-open Y x xs t n r)
+
+  -- one event more, which leaves its operation open
+  goes-on : (p : List (Y .Event)) (e : Y .Event) (es : List (Y .Event)) (t : Y .State) →
+      let p′ : List (Y .Event) = p ++ (e ∷ []) in
+      let u : Y .State = Y .event e (events Y p t) in
+      Ordered Y (p′ ++ es) (turns Y p′ es (events Y p′ t)) t (events Y es (events Y p′ t)) → Ordered Y (p ++ (e ∷ es)) (turns Y p′ es u) t (events Y es u)
+  goes-on p e es t o =
+      let p′ : List (Y .Event) = p ++ (e ∷ []) in
+      let u : Y .State = Y .event e (events Y p t) in
+      subst (λ z. Ordered Y z (turns Y p′ es u) t (events Y es u)) (append-assoc p (e ∷ []) es)
+      (subst (λ z. Ordered Y (p′ ++ es) (turns Y p′ es z) t (events Y es z)) (events-append Y p (e ∷ []) t) o)
+
+  -- or closes it: the turn is found
+  comes-to-end : (p : List (Y .Event)) (e : Y .Event) (es : List (Y .Event)) (t : Y .State) → Inv t → Quiet Y t → Inner Y p t →
       let i : Y .Side = Y .whose e in
-      let first : List (Y .Event) = mine Y i before ++ (e ∷ []) in
-      let later : List (Y .Event) = rest Y i before ++ behind in
-      let own : Own Y i first = own-append Y i (mine Y i before) (e ∷ []) (mine-own Y i before) (refl, tt) in
-      let u : Y .State = events Y first t in
-      let w : Inv u = events-keep first t v in
-      let g : Y .event e (events Y before t) ≡ events Y (rest Y i before) u = gather i e before t v refl n in
-      let s : events Y later u ≡ events Y es t =
-      events-append Y (rest Y i before) behind u
-      ∙ ap (events Y behind) (sym g)
-      ∙ sym (ap (λ z. events Y z t) p ∙ events-append Y before (e ∷ behind) t) in
-      let here : Y .isOpen i u ≡ false =
-      sym (others-apart i (rest Y i before) u w (rest-others Y i before)) ∙ ap (Y .isOpen i) (sym g) ∙ c in
-      let quiet : Quiet Y u = λ j. closed t i j first v q own here (Y .same i j) in
-      let m : length es ≡ length before + suc (length behind) = ap length p ∙ length-append before (e ∷ behind) in
-      let shorter : length later ≤ k = omega (arith, length-append (rest Y i before) behind, rest-length Y i before) in
-      turn i first own quiet (subst (λ z. Turns Y z u) s (ih later u shorter w quiet (subst (Quiet Y) (sym s) r)))
+      let u : Y .State = Y .event e (events Y p t) in
+      let t′ : Y .State = events Y (mine Y i p ++ (e ∷ [])) t in
+      Y .isOpen i u ≡ false
+      → (Inv t′ → Quiet Y t′ → Inner Y (rest Y i p) t′ → u ≡ events Y (rest Y i p) t′
+      → Ordered Y (rest Y i p ++ es) (turns Y (rest Y i p) es u) t′ (events Y es u))
+      → Ordered Y (p ++ (e ∷ es)) (record { before = mine Y i p; last = e } ∷ turns Y (rest Y i p) es u) t (events Y es u)
+  comes-to-end p e es t v q n c later =
+      let i : Y .Side = Y .whose e in
+      let u : Y .State = Y .event e (events Y p t) in
+      let first : List (Y .Event) = mine Y i p ++ (e ∷ []) in
+      let t′ : Y .State = events Y first t in
+      let g : Gathered e p (mine Y i p) (rest Y i p) t = gather i e p t v refl n in
+      let own : Own Y i first = own-append Y i (mine Y i p) (e ∷ []) (mine-own Y i p) (refl, tt) in
+      let v′ : Inv t′ = events-keep Y Inv (h .keeps) first t v in
+      let here : Y .isOpen i t′ ≡ false =
+      sym (others-apart i (rest Y i p) t′ v′ (rest-others Y i p)) ∙ ap (Y .isOpen i) (sym (g .gathers)) ∙ c in
+      let quiet : Quiet Y t′ = λ j. closed t i j first v q own here (Y .same i j) in
+      let o : Ordered Y (rest Y i p ++ es) (turns Y (rest Y i p) es u) t′ (events Y es u) = later v′ quiet (g .later-inner) (g .gathers) in
+      record {
+        turned = (record { own = mine-own Y i p; inner = g .first-inner; quiet = quiet }, o .turned);
+        kept = λ j. turn-kept Y j e p es (eventsIn Y (turns Y (rest Y i p) es u)) (o .kept j);
+      }
 
-  -- the first turn is found, or there is nothing to do
-  by-first : (es : List (Y .Event)) (t : Y .State) → Quiet Y (events Y es t) → Cut Y es t
-      → ((before : List (Y .Event)) (e : Y .Event) (behind : List (Y .Event)) → es ≡ before ++ (e ∷ behind) → Inner Y before t
-      → Y .isOpen (Y .whose e) (Y .event e (events Y before t)) ≡ false → Turns Y (events Y es t) t)
-      → Turns Y (events Y es t) t
-  by-first [] t r (none i) f = end
-  by-first (x ∷ xs) t r (none i) f = absurd (still-open Y x xs t i r)
-  by-first [] t r (at before e behind p n c) f = f before e behind p n c
-  by-first (x ∷ xs) t r (at before e behind p n c) f = f before e behind p n c
+  ordered : (p es : List (Y .Event)) (t : Y .State) → Inv t → Quiet Y t → Inner Y p t → Quiet Y (events Y es (events Y p t))
+      → Ordered Y (p ++ es) (turns Y p es (events Y p t)) t (events Y es (events Y p t))
+  unfolding turns
+  ordered p [] t v q n r = at-end p t n r
+  ordered p (e ∷ es) t v q n r =
+      let i : Y .Side = Y .whose e in
+      let p′ : List (Y .Event) = p ++ (e ∷ []) in
+      let u : Y .State = Y .event e (events Y p t) in
+      let by : Bool → List (Turn Y) = λ b. cond b (turns Y p′ es u) (record { before = mine Y i p; last = e } ∷ turns Y (rest Y i p) es u) in
+      by-test (Y .isOpen i u)
+      (λ o. subst (λ b. Ordered Y (p ++ (e ∷ es)) (by b) t (events Y es u)) (sym o)
+      (goes-on p e es t (ordered p′ es t v q (inner-append Y p e t n o) (subst (λ z. Quiet Y (events Y es z)) (sym (events-append Y p (e ∷ []) t)) r))))
+      (λ c. subst (λ b. Ordered Y (p ++ (e ∷ es)) (by b) t (events Y es u)) (sym c)
+      (comes-to-end p e es t v q n c (λ a b d s.
+      subst (λ z. Ordered Y (rest Y i p ++ es) (turns Y (rest Y i p) es z) (events Y (mine Y i p ++ (e ∷ [])) t) (events Y es z)) (sym s)
+      (ordered (rest Y i p) es (events Y (mine Y i p ++ (e ∷ [])) t) a b d (subst (λ z. Quiet Y (events Y es z)) s r)))))
 
-  none-left : (es : List (Y .Event)) (t : Y .State) → length es ≤ 0 → Turns Y (events Y es t) t
-  none-left [] t l = end
-  none-left (x ∷ xs) t l = absurd (omega arith)
-
-  -- THE REDUCTION, for lists of at most k events
-  ordered : (k : ℕ) (es : List (Y .Event)) (t : Y .State) → length es ≤ k → Inv t → Quiet Y t → Quiet Y (events Y es t) → Turns Y (events Y es t) t
-  ordered zero es t l v q r = none-left es t l
-  ordered (suc k) es t l v q r =
-      by-first es t r (cut Y es t) (after-first k es t l v q r (λ later u a b c d. ordered k later u a b c d))
-
-  -- THE THEOREM: a list of events that begins and ends with nothing open is a list of turns
-  pub in-turns : (es : List (Y .Event)) (t : Y .State) → Inv t → Quiet Y t → Quiet Y (events Y es t) → Turns Y (events Y es t) t
-  in-turns es t v q r = ordered (length es) es t (omega arith) v q r
+  -- THE THEOREM: a list of events that begins and ends with nothing open leaves what its turns leave
+  pub in-turns : (es : List (Y .Event)) (t : Y .State) → Inv t → Quiet Y t → Quiet Y (events Y es t) → Ordered Y es (turns Y [] es t) t (events Y es t)
+  in-turns es t v q r = ordered [] es t v q tt r

@@ -1,14 +1,15 @@
--- A turn of one side alone is whole calls, or whole acts, one after the other: a call refused as Busy leaves no trace, and no more than n + 4 steps are needed.
+-- A turn is a whole call or a whole act, that with which it begins: a call refused as Busy leaves no trace, and no more than n + 4 steps are needed. So the
+-- order that explains a mixing is that of the operations' last events.
 use mathlib.Core.Path.{_≡_, refl, sym, ap, subst, _∙_}
 use mathlib.Core.Bool.{Bool, true, false, cond, true≢false}
 use mathlib.Core.Logic.{_⊎_, inl, inr}
-use mathlib.Core.List.{List, [], _∷_, _++_, append-assoc}
+use mathlib.Core.List.{List, [], _∷_, _++_, append-nil, append-assoc}
 use Prim.Native.Nat.{ℕ, zero, suc, _+_, _≤_, _<_}
 use native.Mathlib.Omega.{arith}
 use borrow.Author.Tests.{eq-eqb}
 use lib.Dec.{eqb}
 use lib.ListN.{replicate}
-use Rattle.lists.specs.Tests.{by-test}
+use Rattle.lists.specs.Tests.{by-test, either}
 use Rattle.virtio.specs.declared.Desc.{Desc}
 use Rattle.virtio.specs.declared.Buffer.{Buffer}
 use Rattle.virtio.specs.Desc.{hasNext, hasIndirect}
@@ -16,16 +17,15 @@ use Rattle.virtio.specs.Memory.{Memory, avail-idx, spot, loadAt}
 use Rattle.rules.specs.Record.{Queue, isOpen}
 use Rattle.rules.specs.Answer.{Outcome, Busy, unless}
 use Rattle.rules.specs.Step.{move}
-use Rattle.rules.specs.Calls.{fits, addRefusal, callRefusal, countRefusal, opened, andThen, moves, openAdd, openPop, openPeek, canPop, shouldNotify, setDevNotify, availableDesc, step as stepOf}
+use Rattle.rules.specs.Calls.{fits, addRefusal, callRefusal, countRefusal, openAdd, openPop, openPeek, canPop, shouldNotify, setDevNotify, availableDesc, step as stepOf}
 use Rattle.laws.specs.WellFormedIs.{means-well-formed}
 use Rattle.laws.specs.CallKeeps.{Good}
-use Rattle.laws.specs.Runs.{moves-open}
-use Rattle.laws.specs.Regions.{step-goes}
-use Rattle.laws.specs.StepsLeft.{stepsMost, left-bound, step-lowers, run-is}
+use Rattle.laws.specs.StepsLeft.{stepsMost, left-bound, step-lowers}
+use Rattle.laws.specs.StepsAlike.{step-moves}
 use Rattle.mixing.specs.Device.{Wiring, Act, Table, in-table, in-list, Doing, resting, take-idx, take-head, take-chain, complete-id, complete-len, complete-idx, Device, Worked, acting, reads, work}
-use Rattle.mixing.specs.Mix.{Call, add, pop-used, peek-used, can-pop, should-notify, available-desc, set-dev-notify, Event, call, step, act, tick, Trace, opening, drives, works, event, trace}
+use Rattle.mixing.specs.Mix.{Call, add, pop-used, peek-used, can-pop, should-notify, available-desc, set-dev-notify, Event, call, step, act, tick, Trace, opening, further, drives, works, event, trace}
 use Rattle.mixing.specs.Demand.{Whole, whole-call, whole-act, stepsOf, inTurn}
-use Rattle.mixing.specs.Turns.{Sides, Swaps, events, Own, Quiet, Turns, end, turn, in-turns}
+use Rattle.mixing.specs.Turns.{Sides, Swaps, events, Own, Quiet, Inner, Turn, eventsOf, Whole-turn, Turned, turns, Ordered, events-append, events-keep, in-turns}
 
 -- ---- the two sides
 
@@ -53,6 +53,22 @@ busy device t = acting (t .device .doing)
 
 abbrev pub sides : Wiring → Sides
 sides w = record { Side = Side; Event = Event; State = Trace; same = same; whose = whose; event = event w; isOpen = busy }
+
+-- THE ORDER of last events: the turns of the events, each the call or the act that it begins with; a turn that begins with a step is that step, with
+-- nothing open
+abbrev pub begins : List Event → List Whole
+begins [] = []
+begins (call c ∷ es) = whole-call c ∷ []
+begins (act a ∷ es) = whole-act a ∷ []
+begins (step ∷ es) = []
+begins (tick ∷ es) = []
+
+abbrev pub operations : (w : Wiring) → List (Turn (sides w)) → List Whole
+operations w [] = []
+operations w (r ∷ rs) = begins (eventsOf (sides w) r) ++ operations w rs
+
+abbrev pub byLast : Wiring → List Event → Trace → List Whole
+byLast w es t = operations w (turns (sides w) [] es t)
 
 -- how many steps an act may still take
 abbrev pub ticksMost : ℕ → Doing → ℕ
@@ -102,6 +118,24 @@ module _ (w : Wiring) where
     one-more : (b : ℕ) (t : Trace) → busy i (many b t) ≡ false → many b (event w x t) ≡ many b t
     one-more b t e = again b t ∙ idle (many b t) e
 
+    -- ---- so a turn is what it begins with, where b of them close what is open and an event of side i is one of them or does nothing while one is open
+
+    module _ (Inv : Trace → Type 0) (keeps : (e : Event) (t : Trace) → Inv t → Inv (event w e t)) (b : ℕ)
+        (closes : (t : Trace) → Inv t → busy i (many b t) ≡ false)
+        (within : (e : Event) (t : Trace) → whose e ≡ i → Inv t → busy i t ≡ true → (e ≡ x) ⊎ (event w e t ≡ t)) where
+      absorbed : (e : Event) (t : Trace) → Inv t → (e ≡ x) ⊎ (event w e t ≡ t) → many b t ≡ many b (event w e t)
+      absorbed e t v (inl p) = sym (one-more b t (closes t v)) ∙ ap (λ z. many b (event w z t)) (sym p)
+      absorbed e t v (inr p) = ap (many b) (sym p)
+
+      -- events that find the operation open and of which the last closes it
+      pub finishes : (es : List Event) (e : Event) (t : Trace) → Inv t → Own (sides w) i es → whose e ≡ i → busy i t ≡ true → Inner (sides w) es t
+          → busy i (event w e (events (sides w) es t)) ≡ false
+          → many b t ≡ events (sides w) (es ++ (e ∷ [])) t
+      finishes [] e t v o p u n c = absorbed e t v (within e t p v u) ∙ rests b (event w e t) c
+      finishes (y ∷ es) e t v o p u n c =
+          absorbed y t v (within y t (o .0) v u)
+          ∙ finishes es e (event w y t) (keeps y t v) (o .1) p (subst (λ s. busy s (event w y t) ≡ true) (o .0) (n .0)) (n .1) c
+
   -- ---- the driver's events
 
   pub step-idle : (t : Trace) → busy driver t ≡ false → event w step t ≡ t
@@ -139,16 +173,12 @@ module _ (w : Wiring) where
       (eq-eqb (opening c (t .queue) (t .memory) .answer) Busy (opening-busy (t .queue) (t .memory) (s .good) (s .fit) o c))
 
   -- a step of the open call is the rules' move
-  pub step-moves : (q : Queue) (m : Memory) → Good q → fits q m ≡ true → isOpen (q .call) ≡ true → stepOf q m ≡ andThen (opened q m) (move q m)
-  unfolding moves
-  step-moves q m g f o = run-is 1 q m (step-goes q m g f) ∙ moves-open 0 (opened q m) o
-
   pub step-open : (t : Trace) → Sane w t → busy driver t ≡ true
-      → event w step t ≡ drives [] (andThen (opened (t .queue) (t .memory)) (move (t .queue) (t .memory))) t
+      → event w step t ≡ drives [] (further (t .made) (move (t .queue) (t .memory))) t
   unfolding event
   step-open t s o =
-      ap (λ b. cond b (drives [] (stepOf (t .queue) (t .memory)) t) t) o
-      ∙ ap (λ r. drives [] r t) (step-moves (t .queue) (t .memory) (s .good) (s .fit) o)
+      ap (λ b. cond b (drives [] (further (t .made) (stepOf (t .queue) (t .memory))) t) t) o
+      ∙ ap (λ r. drives [] (further (t .made) r) t) (step-moves (t .queue) (t .memory) (s .good) (s .fit) o)
 
   -- n + 4 steps close what is open
   module _ (Inv : Trace → Type 0) (keeps : (e : Event) (t : Trace) → Inv t → Inv (event w e t)) (sane : (t : Trace) → Inv t → Sane w t) where
@@ -172,26 +202,16 @@ module _ (w : Wiring) where
         let e : t .queue .n ≡ w .n = sane t v .size in
         steps-close (w .n + 4) t v (omega (arith, left-bound (t .queue) (sane t v .good)))
 
-    -- THE LAW of the driver alone: its events from t on are whole calls from where the open one, if any, ends
-    pub calls-whole : (es : List Event) (t : Trace) → Own (sides w) driver es → Inv t → busy driver (trace w es t) ≡ false
-        → (ws : List Whole) × (trace w (inTurn (w .n) ws) (finish t) ≡ trace w es t)
-    unfolding trace
-    calls-whole [] t o v c = ([], rests step driver step-idle (w .n + 4) t c)
-    calls-whole (step ∷ es) t o v c =
-        let r = calls-whole es (event w step t) (o .1) (keeps step t v) c in
-        (r .0, ap (trace w (inTurn (w .n) (r .0))) (sym (one-more step driver step-idle (w .n + 4) t (finished t v))) ∙ r .1)
-    calls-whole (call x ∷ es) t o v c =
-        let r = calls-whole es (event w (call x) t) (o .1) (keeps (call x) t v) c in
-        by-test (busy driver t)
-        (λ b. (r .0, ap (λ z. trace w (inTurn (w .n) (r .0)) (finish z)) (sym (call-busy-none x t (sane t v) b)) ∙ r .1))
-        (λ b. (
-          whole-call x ∷ r .0,
-          ap (trace w (inTurn (w .n) (whole-call x ∷ r .0))) (rests step driver step-idle (w .n + 4) t b)
-              ∙ trace-append (call x ∷ replicate (w .n + 4) step) (inTurn (w .n) (r .0)) t
-              ∙ r .1,
-        ))
-    calls-whole (act a ∷ es) t o v c = absurd (driver≢device (sym (o .0)))
-    calls-whole (tick ∷ es) t o v c = absurd (driver≢device (sym (o .0)))
+    calls-within : (e : Event) (t : Trace) → whose e ≡ driver → Inv t → busy driver t ≡ true → (e ≡ step) ⊎ (event w e t ≡ t)
+    calls-within step t o v b = inl refl
+    calls-within (call c) t o v b = inr (call-busy-none c t (sane t v) b)
+    calls-within (act a) t o v b = absurd (driver≢device (sym o))
+    calls-within tick t o v b = absurd (driver≢device (sym o))
+
+    -- an open call, stepped to its end, is finished
+    pub call-finishes : (es : List Event) (e : Event) (t : Trace) → Inv t → Own (sides w) driver es → whose e ≡ driver → busy driver t ≡ true
+        → Inner (sides w) es t → busy driver (event w e (events (sides w) es t)) ≡ false → finish t ≡ events (sides w) (es ++ (e ∷ [])) t
+    call-finishes = finishes step driver step-idle Inv keeps (w .n + 4) finished calls-within
 
   -- ---- the device's events
 
@@ -203,20 +223,20 @@ module _ (w : Wiring) where
   unfolding event
   act-busy-none a t e = rw e
 
-  either : (b : Bool) (x y : Worked) (k : ℕ) → ticksMost (w .n) (x .device .doing) < k → ticksMost (w .n) (y .device .doing) < k
-      → ticksMost (w .n) (cond b x y .device .doing) < k
-  either true x y k f g = f
-  either false x y k f g = g
+  abbrev Within : ℕ → Worked → Type 0
+  Within k x = ticksMost (w .n) (x .device .doing) < k
 
   reads-lowers : (h k : ℕ) (s : Table) (bs : List Buffer) (x : Desc) (d : Device) (m : Memory)
       → ticksMost (w .n) (reads w h k s bs x d m .device .doing) < suc k + 1
   reads-lowers h k in-table bs x d m =
-      either (hasIndirect x) _ _ (suc k + 1) (omega arith) (either (hasNext x) _ _ (suc k + 1) (omega arith) (omega arith))
-  reads-lowers h k (in-list s) bs x d m = either (hasNext x) _ _ (suc k + 1) (omega arith) (omega arith)
+      either (Within (suc k + 1)) (hasIndirect x) _ _ (λ e. omega arith)
+      (λ e. either (Within (suc k + 1)) (hasNext x) _ _ (λ z. omega arith) (λ z. omega arith))
+  reads-lowers h k (in-list s) bs x d m = either (Within (suc k + 1)) (hasNext x) _ _ (λ e. omega arith) (λ e. omega arith)
 
   work-lowers : (a : Doing) (d : Device) (m : Memory) → acting a ≡ true → ticksMost (w .n) (work w a d m .device .doing) < ticksMost (w .n) a
   work-lowers resting d m e = absurd (true≢false (sym e))
-  work-lowers take-idx d m e = either (eqb (loadAt (spot (w .legacy) (w .n) avail-idx) m) (d .taken)) _ _ (w .n + 4) (omega arith) (omega arith)
+  work-lowers take-idx d m e =
+      either (Within (w .n + 4)) (eqb (loadAt (spot (w .legacy) (w .n) avail-idx) m) (d .taken)) _ _ (λ z. omega arith) (λ z. omega arith)
   work-lowers take-head d m e = omega arith
   work-lowers (take-chain h zero s i bs) d m e = omega arith
   work-lowers (take-chain h (suc k) s i bs) d m e = reads-lowers h k s bs _ d m
@@ -247,27 +267,18 @@ module _ (w : Wiring) where
     abbrev finishAct : Trace → Trace
     finishAct t = trace w (replicate (w .n + 4) tick) t
 
-    -- THE LAW of the device alone
-    pub acts-whole : (es : List Event) (t : Trace) → Own (sides w) device es → Inv t → busy device (trace w es t) ≡ false
-        → (ws : List Whole) × (trace w (inTurn (w .n) ws) (finishAct t) ≡ trace w es t)
-    unfolding trace
-    acts-whole [] t o v c = ([], rests tick device tick-idle (w .n + 4) t c)
-    acts-whole (tick ∷ es) t o v c =
-        let r = acts-whole es (event w tick t) (o .1) (keeps tick t v) c in
-        let f : busy device (finishAct t) ≡ false = ticks-close (w .n + 4) t v (sane t v .ticks) in
-        (r .0, ap (trace w (inTurn (w .n) (r .0))) (sym (one-more tick device tick-idle (w .n + 4) t f)) ∙ r .1)
-    acts-whole (act a ∷ es) t o v c =
-        let r = acts-whole es (event w (act a) t) (o .1) (keeps (act a) t v) c in
-        by-test (busy device t)
-        (λ b. (r .0, ap (λ z. trace w (inTurn (w .n) (r .0)) (finishAct z)) (sym (act-busy-none a t b)) ∙ r .1))
-        (λ b. (
-          whole-act a ∷ r .0,
-          ap (trace w (inTurn (w .n) (whole-act a ∷ r .0))) (rests tick device tick-idle (w .n + 4) t b)
-              ∙ trace-append (act a ∷ replicate (w .n + 4) tick) (inTurn (w .n) (r .0)) t
-              ∙ r .1,
-        ))
-    acts-whole (call x ∷ es) t o v c = absurd (driver≢device (o .0))
-    acts-whole (step ∷ es) t o v c = absurd (driver≢device (o .0))
+    acts-within : (e : Event) (t : Trace) → whose e ≡ device → Inv t → busy device t ≡ true → (e ≡ tick) ⊎ (event w e t ≡ t)
+    acts-within tick t o v b = inl refl
+    acts-within (act a) t o v b = inr (act-busy-none a t b)
+    acts-within (call c) t o v b = absurd (driver≢device o)
+    acts-within step t o v b = absurd (driver≢device o)
+
+    act-finished : (t : Trace) → Inv t → busy device (finishAct t) ≡ false
+    act-finished t v = ticks-close (w .n + 4) t v (sane t v .ticks)
+
+    act-finishes : (es : List Event) (e : Event) (t : Trace) → Inv t → Own (sides w) device es → whose e ≡ device → busy device t ≡ true
+        → Inner (sides w) es t → busy device (event w e (events (sides w) es t)) ≡ false → finishAct t ≡ events (sides w) (es ++ (e ∷ [])) t
+    act-finishes = finishes tick device tick-idle Inv keeps (w .n + 4) act-finished acts-within
 
     -- ---- turns
 
@@ -275,41 +286,57 @@ module _ (w : Wiring) where
     in-turn-append n [] ys = refl
     in-turn-append n (x ∷ xs) ys = ap (λ z. stepsOf n x ++ z) (in-turn-append n xs ys) ∙ sym (append-assoc (stepsOf n x) (inTurn n xs) (inTurn n ys))
 
-    -- one turn
-    turn-whole : (i : Side) (es : List Event) (t : Trace) → Own (sides w) i es → Inv t → Quiet (sides w) t → Quiet (sides w) (events (sides w) es t)
-        → (ws : List Whole) × (trace w (inTurn (w .n) ws) t ≡ events (sides w) es t)
-    turn-whole driver es t o v q r =
-        let e = events-trace es t in
-        let z = calls-whole Inv keeps sane es t o v (ap (busy driver) (sym e) ∙ r driver) in
-        (z .0, ap (trace w (inTurn (w .n) (z .0))) (sym (rests step driver step-idle (w .n + 4) t (q driver))) ∙ z .1 ∙ sym e)
-    turn-whole device es t o v q r =
-        let e = events-trace es t in
-        let z = acts-whole es t o v (ap (busy device) (sym e) ∙ r device) in
-        (z .0, ap (trace w (inTurn (w .n) (z .0))) (sym (rests tick device tick-idle (w .n + 4) t (q device))) ∙ z .1 ∙ sym e)
+    -- one operation alone
+    alone : (o : Whole) (t : Trace) → trace w (inTurn (w .n) (o ∷ [])) t ≡ trace w (stepsOf (w .n) o) t
+    alone o t = ap (λ z. trace w z t) (append-nil (stepsOf (w .n) o))
 
-    events-keep : (es : List Event) (t : Trace) → Inv t → Inv (events (sides w) es t)
-    events-keep [] t v = v
-    events-keep (e ∷ es) t v = events-keep es (event w e t) (keeps e t v)
+    -- a turn of one event: an opening that ends at once, or a step with nothing open
+    short-turn : (e : Event) (t : Trace) → Quiet (sides w) t → Quiet (sides w) (event w e t) → trace w (inTurn (w .n) (begins (e ∷ []))) t ≡ event w e t
+    unfolding trace
+    short-turn (call c) t q r = alone (whole-call c) t ∙ rests step driver step-idle (w .n + 4) (event w (call c) t) (r driver)
+    short-turn (act a) t q r = alone (whole-act a) t ∙ rests tick device tick-idle (w .n + 4) (event w (act a) t) (r device)
+    short-turn step t q r = sym (step-idle t (q driver))
+    short-turn tick t q r = sym (tick-idle t (q device))
+
+    -- one of several: it begins with an opening, since a step with nothing open leaves nothing open
+    long-turn : (x : Event) (es : List Event) (e : Event) (t : Trace) → Inv t → Quiet (sides w) t → Own (sides w) (whose e) (x ∷ es)
+        → Inner (sides w) (x ∷ es) t → Quiet (sides w) (event w e (events (sides w) (x ∷ es) t))
+        → trace w (inTurn (w .n) (begins (x ∷ es ++ (e ∷ [])))) t ≡ events (sides w) (x ∷ es ++ (e ∷ [])) t
+    unfolding trace
+    long-turn (call c) es e t v q o n r =
+        alone (whole-call c) t
+        ∙ call-finishes Inv keeps sane es e (event w (call c) t) (keeps (call c) t v) (subst (λ s. Own (sides w) s es) (sym (o .0)) (o .1)) (sym (o .0)) (n .0) (n .1) (r driver)
+    long-turn (act a) es e t v q o n r =
+        alone (whole-act a) t
+        ∙ act-finishes es e (event w (act a) t) (keeps (act a) t v) (subst (λ s. Own (sides w) s es) (sym (o .0)) (o .1)) (sym (o .0)) (n .0) (n .1) (r device)
+    long-turn step es e t v q o n r = absurd (true≢false (sym (n .0) ∙ ap (busy driver) (step-idle t (q driver)) ∙ q driver))
+    long-turn tick es e t v q o n r = absurd (true≢false (sym (n .0) ∙ ap (busy device) (tick-idle t (q device)) ∙ q device))
+
+    turn-whole : (before : List Event) (e : Event) (t : Trace) → Inv t → Quiet (sides w) t → Whole-turn (sides w) (record { before = before; last = e }) t
+        → trace w (inTurn (w .n) (begins (before ++ (e ∷ [])))) t ≡ events (sides w) (before ++ (e ∷ [])) t
+    turn-whole [] e t v q h = short-turn e t q (h .quiet)
+    turn-whole (x ∷ es) e t v q h =
+        long-turn x es e t v q (h .own) (h .inner) (subst (Quiet (sides w)) (events-append (sides w) (x ∷ es) (e ∷ []) t) (h .quiet))
 
     -- THE LAW: turns are whole calls and whole acts
-    pub turns-whole : (t u : Trace) → Inv t → Quiet (sides w) t → Turns (sides w) u t → (ws : List Whole) × (trace w (inTurn (w .n) ws) t ≡ u)
+    turns-whole : (ts : List (Turn (sides w))) (t u : Trace) → Inv t → Quiet (sides w) t → Turned (sides w) ts t u
+        → trace w (inTurn (w .n) (operations w ts)) t ≡ u
     unfolding trace
-    turns-whole t u v q end = ([], refl)
-    turns-whole t u v q (turn i es o c r) =
-        let x = turn-whole i es t o v q c in
-        let y = turns-whole (events (sides w) es t) u (events-keep es t v) c r in (
-          x .0 ++ y .0,
-          ap (λ z. trace w z t) (in-turn-append (w .n) (x .0) (y .0))
-              ∙ trace-append (inTurn (w .n) (x .0)) (inTurn (w .n) (y .0)) t
-              ∙ ap (trace w (inTurn (w .n) (y .0))) (x .1)
-              ∙ y .1,
-        )
+    turns-whole [] t u v q h = h
+    turns-whole (r ∷ rs) t u v q h =
+        let es : List Event = eventsOf (sides w) r in
+        let ws : List Whole = operations w rs in
+        ap (λ z. trace w z t) (in-turn-append (w .n) (begins es) ws)
+        ∙ trace-append (inTurn (w .n) (begins es)) (inTurn (w .n) ws) t
+        ∙ ap (trace w (inTurn (w .n) ws)) (turn-whole (r .before) (r .last) t v q (h .0))
+        ∙ turns-whole rs (events (sides w) es t) u (events-keep (sides w) Inv keeps es t v) (h .0 .quiet) (h .1)
 
--- THE REDUCTION OF DEMAND 3: events that begin and end with nothing open, and change places as `Swaps` asks, are whole calls and whole acts in some order
+-- THE REDUCTION OF DEMAND 3: events that begin and end with nothing open, and change places as `Swaps` asks, leave what whole calls and whole acts leave, in the
+-- order of their last events
 pub whole-order : (w : Wiring) (Inv : Trace → Type 0) → Swaps (sides w) Inv → ((t : Trace) → Inv t → Sane w t)
     → (es : List Event) (t : Trace) → Inv t → Quiet (sides w) t → Quiet (sides w) (trace w es t)
-    → (ws : List Whole) × (trace w (inTurn (w .n) ws) t ≡ trace w es t)
+    → trace w (inTurn (w .n) (byLast w es t)) t ≡ trace w es t
 whole-order w Inv h sane es t v q r =
     let e : events (sides w) es t ≡ trace w es t = events-trace w es t in
-    let x = turns-whole w Inv (h .keeps) sane t (events (sides w) es t) v q (in-turns (sides w) Inv h es t v q (subst (Quiet (sides w)) (sym e) r)) in
-    (x .0, x .1 ∙ e)
+    let o : Ordered (sides w) es (turns (sides w) [] es t) t (events (sides w) es t) = in-turns (sides w) Inv h es t v q (subst (Quiet (sides w)) (sym e) r) in
+    turns-whole w Inv (h .keeps) sane (turns (sides w) [] es t) t (events (sides w) es t) v q (o .turned) ∙ e

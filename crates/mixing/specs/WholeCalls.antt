@@ -1,21 +1,21 @@
 -- A whole call of demand 3, its opening and then steps of the driver alone, is the rules' whole call: add, popUsed, peekUsed, or the call of a single step.
-use mathlib.Core.Path.{_≡_, refl, sym, ap, ap₂, subst, _∙_}
-use mathlib.Core.Bool.{Bool, true, false, not, cond, true≢false}
+use mathlib.Core.Path.{_≡_, refl, sym, ap, ap₂, _∙_}
+use mathlib.Core.Bool.{Bool, true, false, not, cond}
 use mathlib.Core.List.{List, [], _∷_, _++_, append-nil}
 use Prim.Native.Nat.{ℕ, zero, suc, _+_}
 use native.Mathlib.Omega.{arith}
-use borrow.Author.Tests.{eqb-false, eqb-true, eq-eqb, ne-eqb}
+use borrow.Author.Tests.{eq-eqb, ne-eqb}
 use lib.Dec.{eqb}
 use lib.ListN.{length, replicate}
-use Rattle.lists.specs.Tests.{by-test, by-eq}
+use Rattle.lists.specs.Tests.{by-test, by-eq, either}
 use Rattle.lists.specs.Pick.{_when_, first}
 use Rattle.virtio.specs.declared.Buffer.{Buffer}
 use Rattle.virtio.specs.Memory.{Memory}
-use Rattle.rules.specs.Record.{Queue, isOpen, withCall}
+use Rattle.rules.specs.Record.{Queue, isOpen}
 use Rattle.rules.specs.WellFormed.{noEmpty}
 use Rattle.rules.specs.Answer.{Outcome, Busy, refused, unless, InvalidParam, QueueFull, EmptyBuffer}
 use Rattle.rules.specs.Step.{move}
-use Rattle.rules.specs.Calls.{fits, badList, full, addRefusal, callRefusal, countRefusal, opened, andThen, moves, whole, add as wholeAdd, popUsed, peekUsed, openAdd, openPop, openPeek, canPop, shouldNotify, setDevNotify, availableDesc}
+use Rattle.rules.specs.Calls.{fits, badList, full, addRefusal, callRefusal, countRefusal, moves, whole, add as wholeAdd, popUsed, peekUsed, openAdd, openPop, openPeek, canPop, shouldNotify, setDevNotify, availableDesc}
 use Rattle.laws.specs.WellFormedIs.{means-well-formed}
 use Rattle.laws.specs.CallKeeps.{Good, move-keeps}
 use Rattle.laws.specs.Changes.{SameLengths}
@@ -23,11 +23,12 @@ use Rattle.laws.specs.Still.{lengths-stay}
 use Rattle.laws.specs.EveryKeeps.{every-keeps, can-pop-record, should-notify-record, set-notify-record, available-record}
 use Rattle.laws.specs.Runs.{onward, moves-closed, moves-open}
 use Rattle.laws.specs.Regions.{still-fits, moves-fit}
+use Rattle.laws.specs.StepsAlike.{move-shaped}
 use Rattle.mixing.specs.Device.{Wiring}
-use Rattle.mixing.specs.Mix.{Call, add, pop-used, peek-used, can-pop, should-notify, available-desc, set-dev-notify, Event, call, step, Trace, Answer, opening, answersOf, drives, event, trace}
+use Rattle.mixing.specs.Mix.{Call, add, pop-used, peek-used, can-pop, should-notify, available-desc, set-dev-notify, call, step, Trace, Answer, opening, answersOf, drives, event, trace}
 use Rattle.mixing.specs.Demand.{whole-call, stepsOf}
 use Rattle.mixing.specs.Whole.{driver, busy, Sane, step-open, step-idle}
-use Rattle.mixing.specs.Shaping.{opening-shaped, move-shaped}
+use Rattle.mixing.specs.Shaping.{opening-shaped}
 
 -- the rules' whole call
 abbrev pub wholly : Call → Queue → Memory → Outcome
@@ -89,10 +90,6 @@ module _ (q : Queue) (m : Memory) (g : Good q) (f : fits q m ≡ true) (r : isOp
   not-busy : (number : ℕ) → number ≡ 0 → number ≡ Busy → ⊥
   not-busy number e z = omega arith
 
-  either : (b : Bool) (o p : Outcome) → o .answer ≡ 0 → p .answer ≡ 0 → cond b o p .answer ≡ 0
-  either true o p e z = e
-  either false o p e z = z
-
   opening-free : (c : Call) → opening c q m .answer ≡ Busy → ⊥
   unfolding openAdd openPop openPeek canPop shouldNotify setDevNotify availableDesc
   opening-free (add bs) = unless-free (addRefusal q m bs) _ (add-free bs) refl
@@ -102,7 +99,8 @@ module _ (q : Queue) (m : Memory) (g : Good q) (f : fits q m ≡ true) (r : isOp
   opening-free should-notify = unless-free (callRefusal q m) _ (not-busy (callRefusal q m) call-free) refl
   opening-free available-desc = unless-free (countRefusal q) _ (not-busy (countRefusal q) count-free) refl
   opening-free (set-dev-notify b) =
-      unless-free (callRefusal q m) _ (not-busy (callRefusal q m) call-free) (either (q .modes .«event_idx») _ _ refl refl)
+      unless-free (callRefusal q m) _ (not-busy (callRefusal q m) call-free)
+      (either (λ (o : Outcome). o .answer ≡ 0) (q .modes .«event_idx») _ _ (λ e. refl) (λ e. refl))
 
   -- an opening and its moves are the whole call
   opening-whole : (c : Call) → moves (q .n + 4) (opening c q m) ≡ wholly c q m
@@ -138,21 +136,28 @@ opening-lengths (set-dev-notify b) q m = lengths-stay q m .after-set-notify b
 module _ (w : Wiring) where
   -- ---- a call that is open in a trace makes the rules' moves
 
+  -- each counts one
+  pub step-counts : (t : Trace) → Sane w t → busy driver t ≡ true → event w step t .made ≡ t .made + 1
+  unfolding move
+  step-counts t s o = ap (λ (u : Trace). u .made) (step-open w t s o)
+
   -- an outcome that is open adds no answer, and its step's goes in its place
   step-on : (cs : List Call) (o : Outcome) (t : Trace) → Sane w (drives cs o t) → isOpen (o .queue .call) ≡ true
       → event w step (drives cs o t) ≡ drives cs (onward o) t
+  unfolding move
   step-on cs o t s e =
       step-open w (drives cs o t) s e
       ∙ ap₂ (λ (x : List Call) (y : List Answer). record {
         queue = onward o .queue;
         memory = onward o .memory;
         device = t .device;
+        made = onward o .steps;
         calls = x;
         answers = y ++ answersOf (onward o);
         acts = t .acts;
         results = t .results;
       }) (append-nil (t .calls ++ cs))
-      (ap (λ b. t .answers ++ cond b [] (record { number = o .answer; value = o .value } ∷ [])) e ∙ append-nil (t .answers))
+      (ap (λ b. t .answers ++ cond b [] (record { number = o .answer; value = o .value; steps = o .steps } ∷ [])) e ∙ append-nil (t .answers))
 
   -- a record that is sane beside t stays so
   sane-on : (cs : List Call) (o : Outcome) (t : Trace) → Sane w (drives cs o t) → isOpen (o .queue .call) ≡ true → Sane w (drives cs (onward o) t)
@@ -175,7 +180,7 @@ module _ (w : Wiring) where
       (λ e. ap (trace w (replicate b step)) (step-idle w (drives cs o t) e) ∙ steps-move b cs o t s
       ∙ ap (λ x. drives cs x t) (moves-closed b o e ∙ sym (moves-closed (suc b) o e)))
 
-  -- THE LAW, where the driver is at rest
+  -- THE LAW, where the driver is at rest: the trace gets the rules' outcome, with the steps that it reports
   pub whole-call-is : (c : Call) (t : Trace) → Sane w t → busy driver t ≡ false
       → trace w (stepsOf (w .n) (whole-call c)) t ≡ drives (c ∷ []) (wholly c (t .queue) (t .memory)) t
   unfolding trace event

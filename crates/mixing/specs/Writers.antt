@@ -1,10 +1,11 @@
 -- Which fields the device of demand 3 writes: an opening or a step of an act leaves the memory as it is, or stores one number to a field of the used ring.
 use mathlib.Core.Path.{_≡_, refl}
-use mathlib.Core.Bool.{Bool, true, false, cond}
+use mathlib.Core.Bool.{true}
 use mathlib.Core.Logic.{_⊎_, inl, inr}
 use mathlib.Core.List.{List}
 use Prim.Native.Nat.{ℕ, zero, suc, _%_}
 use lib.Dec.{eqb}
+use Rattle.lists.specs.Tests.{either}
 use Rattle.virtio.specs.declared.Desc.{Desc}
 use Rattle.virtio.specs.declared.Buffer.{Buffer}
 use Rattle.virtio.specs.Desc.{hasNext, hasIndirect}
@@ -24,13 +25,12 @@ module _ (w : Wiring) (m : Memory) where
   abbrev pub Keeps : Memory → Type 0
   Keeps m′ = (m′ ≡ m) ⊎ Stores m′
 
-  either : (b : Bool) (x y : Worked) → x .memory ≡ m → y .memory ≡ m → cond b x y .memory ≡ m
-  either true x y e f = e
-  either false x y e f = f
+  abbrev Unwritten : Worked → Type 0
+  Unwritten x = x .memory ≡ m
 
   reads-keeps : (h k : ℕ) (t : Table) (bs : List Buffer) (x : Desc) (d : Device) → reads w h k t bs x d m .memory ≡ m
-  reads-keeps h k in-table bs x d = either (hasIndirect x) _ _ refl (either (hasNext x) _ _ refl refl)
-  reads-keeps h k (in-list s) bs x d = either (hasNext x) _ _ refl refl
+  reads-keeps h k in-table bs x d = either Unwritten (hasIndirect x) _ _ (λ e. refl) (λ e. either Unwritten (hasNext x) _ _ (λ z. refl) (λ z. refl))
+  reads-keeps h k (in-list s) bs x d = either Unwritten (hasNext x) _ _ (λ e. refl) (λ e. refl)
 
   chain-keeps : (h k : ℕ) (t : Table) (i : ℕ) (bs : List Buffer) (d : Device) → chainStep w h k t i bs d m .memory ≡ m
   chain-keeps h zero t i bs d = refl
@@ -39,7 +39,7 @@ module _ (w : Wiring) (m : Memory) where
   -- THE LAWS
   pub begin-keeps : (a : Act) (d : Device) → Keeps (begin w a d m .memory)
   begin-keeps take-next d = inl refl
-  begin-keeps (complete h l) d = inl (either (mayGiveBack (d .holds) h) _ _ refl refl)
+  begin-keeps (complete h l) d = inl (either Unwritten (mayGiveBack (d .holds) h) _ _ (λ e. refl) (λ e. refl))
   begin-keeps (set-used-flags v) d = inr (record { place = used-flags; number = v; own = refl; is = refl })
   begin-keeps (set-avail-event v) d = inr (record { place = avail-event; number = v; own = refl; is = refl })
   begin-keeps see-avail-flags d = inl refl
@@ -47,7 +47,7 @@ module _ (w : Wiring) (m : Memory) where
 
   pub work-keeps : (a : Doing) (d : Device) → Keeps (work w a d m .memory)
   work-keeps resting d = inl refl
-  work-keeps take-idx d = inl (either (eqb (loadAt (spot (w .legacy) (w .n) avail-idx) m) (d .taken)) _ _ refl refl)
+  work-keeps take-idx d = inl (either Unwritten (eqb (loadAt (spot (w .legacy) (w .n) avail-idx) m) (d .taken)) _ _ (λ e. refl) (λ e. refl))
   work-keeps take-head d = inl refl
   work-keeps (take-chain h k t i bs) d = inl (chain-keeps h k t i bs d)
   work-keeps (complete-id h l) d = inr (record { place = used-id (d .used % w .n); number = h; own = refl; is = refl })
