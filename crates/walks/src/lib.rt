@@ -1,0 +1,1 @@
+// No code: proofs/ has the steps that proofs by hand share.
