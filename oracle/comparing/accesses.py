@@ -1,7 +1,8 @@
-"""The loads and stores of shared memory, call by call: the crate's, seen by closed pages, and ours, seen by single steps.
+"""The loads and stores of shared memory, call by call: the crate's, seen by closed pages, and ours, seen by single steps and by closed pages.
 
 What each call of ours loads and stores is written here from the scope document's "Step by step". Our program confirms the number by the
-steps it reports, and each store by its bytes before and after the step; the order of its loads stands proved, and is not seen here."""
+steps it reports, and each store by its bytes before and after the step. Adds and pops of our archive, as a program links them, are watched by
+closed pages as the crate's are, and show the order of their loads too."""
 import functools
 import itertools
 import random
@@ -11,12 +12,15 @@ import programs
 import scripts
 from scripts import EVENT, INDIRECT, LEGACY
 
-LETTERS, LENGTH, COUNT = "123opkcsd", 4, 300
+LETTERS, COUNT = "123opkcsd", 300
+LENGTH, LEGACY_LENGTH = 4, 3
 OPENING = {2: 3, 4: 5, 6: 7}
 CALLS = (2, 4, 6, 10, 11, 12)
 TWICE = "adds store a list's last entry with NEXT and then without"
 BACK = "pops load a list's entries back"
 LEFT_OUT = "refused pops of the optimised crate leave out the length"
+SEEN = "adds and pops of our archive in the order foretold"
+SCRIPTS = "scripts"
 
 
 class Watched(scripts.Script):
@@ -93,11 +97,12 @@ def names(size, modes):
 
 
 def seen(script, words):
-    """The crate's accesses: instructions that touch other bytes of the same field, one after the other, are one access of it."""
+    """The accesses noted: instructions that touch other bytes of the same field, one after the other, are one access of it."""
     made, known, touched = [], names(script.size, script.modes), set()
     for word in words:
         kind, part, at, digits = word.split(":")
-        name = known.get((int(part), int(at)), f"outside {part}:{at}")
+        place = int(at) % (16 * script.size) if part == "2" else int(at)
+        name = known.get((int(part), place), f"outside {part}:{at}")
         access = f"{kind} {name}"
         if not (made and made[-1][0] == access) or at in touched:
             made.append([access, ""])
@@ -198,11 +203,18 @@ def answer(line):
     return "answer " + " ".join(line.split()[:3])
 
 
-def crate_side(oracle, made, calls):
-    """Answer and accesses of these calls of each script."""
-    lines = programs.run(oracle, "".join(script.text() for script in made), "--accesses")
+def watched(script, calls):
+    """The script, with these calls and those behind them watched."""
+    first = script.calls[calls][0][0] if script.calls else len(script.ops)
+    return "\n".join([*script.ops[:first], f"17 {script.lending()} 2", *script.ops[first:], ""])
+
+
+def noted(program, made, calls):
+    """Answer and accesses of these calls of each script, as closed pages show them; None for a call that the program has not."""
+    lines = programs.run(program, "".join(watched(script, calls) for script in made), "--accesses") if program else []
     for script, some in zip(made, line_groups(made, lines)):
-        yield from ([answer(line), *seen(script, line.split()[3:])] for line in some[calls])
+        for line in some[calls]:
+            yield None if line.endswith(" none") else [answer(line), *seen(script, line.split()[3:])]
 
 
 def our_side(ours, made, calls):
@@ -218,16 +230,21 @@ def our_side(ours, made, calls):
             yield script, call, [answer(line), *confirmed(script, call, count, shown)]
 
 
-def compare_some(ours, made, calls):
+def compare_some(ours, traced, made, calls):
     """Counts the sorts of these calls of some scripts; the first of no sort comes with its script and both sides."""
-    count = Counter()
-    crate = [crate_side(oracle, made, calls) for oracle in (programs.PLAIN, programs.ORACLE)]
+    count = Counter({SCRIPTS: len(made)})
+    crate = [noted(oracle, made, calls) for oracle in (programs.PLAIN, programs.ORACLE)]
+    linked = noted(traced, made, calls)
     for script, call, our in our_side(ours, made, calls):
+        ops, archived = script.ops[:call[0] + 1], next(linked, None)
+        if archived and archived != our:
+            return count, (ops, ["foretold:", *our], ["no crate, but ours by closed pages:", *archived])
+        count[SEEN] += bool(archived)
         for optimised, side in enumerate(crate):
             their = next(side, ["no line"])
             name = sort(call, our, their, optimised)
             if name is None:
-                return count, (script.ops[:call[0] + 1], our, their)
+                return count, (ops, our, their)
             count[name] += 1
     return count, None
 
@@ -237,27 +254,35 @@ def wanted_word(word, modes):
     return word[-1] != "o" and not (modes & LEGACY and set(word[:-1]) & set("kcs"))
 
 
-def short_job(ours, size, modes, length):
+def short_job(ours, traced, size, modes, length):
     """All short scripts; only the last call is looked at, since shorter scripts look at those before it."""
     words = (word for word in scripts.words(size, modes, LETTERS, length) if wanted_word(word, modes))
     total = Counter()
     while some := list(itertools.islice(words, 300)):
-        count, difference = compare_some(ours, [scripts.short(size, modes, word, Watched) for word in some], slice(-1, None))
+        made = [scripts.short(size, modes, word, Watched) for word in some]
+        count, difference = compare_some(ours, traced, made, slice(-1, None))
         total += count
         if difference:
             return total, difference
     return total, None
 
 
-def random_job(ours, seed, index):
+def random_job(ours, traced, seed, index):
     rng = random.Random(f"{seed} accesses {index}")
     script = Watched(rng.choice(scripts.SIZES), rng.randrange(8))
     scripts.wander(script, rng, 40)
-    return compare_some(ours, [script], slice(None))
+    return compare_some(ours, traced, [script], slice(None))
 
 
-def jobs(ours, seed, count):
-    """Short ones first, and the shortest of them, so that a first difference is a smallest one; a seed or a count asks for random ones only."""
-    for length in range(1, LENGTH + 1) if seed is None and count is None else ():
-        yield from ((short_job, ours, size, modes, length) for size in (1, 2, 4) for modes in range(8))
-    yield from ((random_job, ours, seed or 0, index) for index in range(count or COUNT))
+def short_jobs(ours, traced):
+    """The shortest first, so that a first difference is a smallest one; fewer in the legacy layout, whose bytes take our program long to print."""
+    for length in range(1, LENGTH + 1):
+        layouts = range(8 if length <= LEGACY_LENGTH else LEGACY)
+        yield from ((short_job, ours, traced, size, modes, length) for size in (1, 2, 4) for modes in layouts)
+
+
+def jobs(ours, traced, seed, count):
+    """Short ones first; a seed or a count asks for random ones only."""
+    if seed is None and count is None:
+        yield from short_jobs(ours, traced)
+    yield from ((random_job, ours, traced, seed or 0, index) for index in range(count or COUNT))

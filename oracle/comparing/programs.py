@@ -1,4 +1,4 @@
-"""The two programs, runs of them over many scripts, and the first difference made small."""
+"""The programs, and runs of two of them over many scripts up to the first difference."""
 import os
 import shutil
 import subprocess
@@ -8,6 +8,7 @@ ROOT = os.path.dirname(HERE)
 OURS = os.path.join(ROOT, "target", "bin", "calls_runs")
 ORACLE = os.path.join(HERE, "target", "release", "oracle")
 PLAIN = os.path.join(HERE, "target", "debug", "oracle")
+TRACED = os.path.join(HERE, "bench", "target", "release", "traced")
 MOST = 1 << 20
 
 
@@ -29,6 +30,16 @@ def build(*words):
     return subprocess.run(command, cwd=HERE).returncode == 0
 
 
+def traced():
+    """The program that runs our archive's calls over closed pages, built anew; None without the kit, which makes the archive."""
+    if not shutil.which("rt"):
+        return None
+    made = subprocess.run(["rt", "staticlib", "exports"], cwd=ROOT, stdout=subprocess.DEVNULL, stderr=subprocess.DEVNULL)
+    command = ["cargo", "build", "--offline", "--quiet", "--release", "--bin", "traced"]
+    built = made.returncode == 0 and subprocess.run(command, cwd=os.path.join(HERE, "bench")).returncode == 0
+    return TRACED if built else None
+
+
 def run(program, text, *words):
     """The lines that a program prints for a script; one that fails adds a line that says so."""
     told = subprocess.run([program, *words], input=text.encode(), stdout=subprocess.PIPE, stderr=subprocess.DEVNULL)
@@ -41,6 +52,11 @@ def run(program, text, *words):
 def both(ours, text):
     """Ours first, as everywhere here."""
     return run(ours, text), run(ORACLE, text)
+
+
+def news(lines):
+    """How many scripts have begun in these lines."""
+    return sum(line.startswith(("1 ", "25 ")) for line in lines)
 
 
 def first_difference(lines, theirs):
@@ -61,21 +77,6 @@ def kind(ours, ops):
     lines, theirs = both(ours, "\n".join(ops) + "\n")
     at = first_difference(lines, theirs)
     return None if at is None else [line.split()[:2] for line in differing(lines, theirs, at)]
-
-
-def shrunk(ours, ops):
-    """Drops operations, many at a time and then one by one, while the same sort of difference shows."""
-    wanted, step = kind(ours, ops), len(ops) // 2
-    while step:
-        at = 1
-        while at < len(ops):
-            fewer = ops[:at] + ops[at + step:]
-            if kind(ours, fewer) == wanted:
-                ops = fewer
-            else:
-                at += step
-        step //= 2
-    return ops
 
 
 def batches(scripts):
@@ -99,8 +100,8 @@ def compare(ours, scripts):
         lines, theirs = both(ours, "".join(script.text() for script in some))
         at = first_difference(lines, theirs)
         if at is not None:
-            place = sum(line.startswith("1 ") for line in theirs[:at + 1])
-            return count, total, (some[max(place, 1) - 1].ops, differing(lines, theirs, at))
+            place = max(news(theirs[:at + 1]), 1)
+            return count, total, (some[place - 1].ops, differing(lines, theirs, at))
         count += len(some)
         total += len(lines)
     return count, total, None

@@ -1,6 +1,10 @@
 """Scripts kept with the oracle's lines, for a comparison with no Rust at hand."""
+import itertools
 import os
 
+import news
+import outside
+import owning
 import programs
 import scripts
 import wraps
@@ -30,12 +34,15 @@ def write(name, ops, lines):
             file.write("\n".join(told) + "\n")
 
 
-def record():
-    """Makes the recorded files anew with the oracle."""
+def record(ours):
+    """Makes the recorded files anew with the oracle; only what ours does outside the rules is its own."""
     if not programs.build():
         return 2
     os.makedirs(FOLDER, exist_ok=True)
-    kinds = {"short": some_short(), "random": (scripts.some_script(0, index) for index in range(60))}
+    outside.record(ours)
+    kinds = {"short": some_short(), "random": (scripts.some_script(0, index) for index in range(60)),
+             "owning": (owning.some_script(0, index) for index in range(0, 280, 5)),
+             "new": itertools.islice(news.every(), 7, None, 29)}
     for name, made in kinds.items():
         ops = [op for script in made for op in script.ops]
         write(name, ops, programs.run(programs.ORACLE, "\n".join(ops) + "\n"))
@@ -58,7 +65,7 @@ def replay(ours):
         if at is not None:
             print(f"differs: recorded/{name}, line {at + 1}:", *programs.differing(lines, theirs, at), sep="\n  ")
             return 1
-        count += sum(line.startswith("1 ") for line in theirs)
+        count += programs.news(theirs)
         total += len(theirs)
     print(f"oracle: {count} recorded scripts, {total} lines, all the same")
     return 0

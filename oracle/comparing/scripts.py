@@ -4,6 +4,7 @@ from collections import deque
 
 SIZES = (1, 2, 4, 8, 16, 32, 64)
 INDIRECT, EVENT, LEGACY = 1, 2, 4
+LONGEST = (1 << 32) - 1
 LETTERS = "12onpkcs"
 BUFFERS = [(4096, 10, 0), (8192, 20, 1), (12288, 30, 1)]
 
@@ -122,7 +123,7 @@ def some_list(rng, most):
     inputs = rng.randint(0, k)
     wide = rng.random() < 0.2
     address = lambda: rng.getrandbits(64) if wide else 4096 * rng.randint(0, 99)
-    length = lambda: rng.randint(1, 1 << 20) if rng.random() < 0.02 else rng.randint(1, 5000)
+    length = lambda: rng.choice([rng.randint(1, LONGEST), LONGEST]) if rng.random() < 0.05 else rng.randint(1, 5000)
     return [(address(), length(), int(i >= inputs)) for i in range(k)]
 
 
@@ -207,6 +208,9 @@ def some_script(seed, index):
         return refused_new(rng)
     more = [rng.randint(0, 99) for _ in range(3)] if rng.random() < 0.2 else (0, 0, 0)
     script = Script(size, modes, more)
+    if rng.random() < 0.2:
+        bases = " ".join(str(4096 * rng.getrandbits(51)) for _ in range(3))
+        script.ops = [f"25 {size} {modes} 0 {size} {bases} {script.lending()} 1"]
     wander(script, rng, rng.randint(10, 60) if rng.random() < 0.98 else 500)
     return script
 

@@ -4,16 +4,18 @@ Our program reads at most 1 MiB, so that it runs such a script in pieces. A piec
 the next one starts from a record forged to hold what ours itself printed there. The oracle runs the whole script at once."""
 import random
 
+from owning import Owning, some_turn
 from programs import MOST, ORACLE, differing, first_difference, run
 from scripts import Script, some_list, wander
 
 CASES = ((1, 2), (4, 4), (8, 3), (64, 2))
+OWNING_CASES = ((1, 0, 16), (4, 3, 3))
 
 
 def empty_out(script):
-    """Everything outstanding is completed and popped."""
+    """Everything outstanding is completed and popped, the newest first, which leaves the free order as it was before the adds."""
     while script.pending:
-        script.complete(0, 1)
+        script.complete(-1, 1)
     script.publish()
     while script.told:
         script.pop()
@@ -96,4 +98,27 @@ def compare_wrap(ours, seed, size, modes):
     if at is None:
         return 1, len(lines), None
     print(f"the wrap of size {size}, modes {modes}, line {at + 1}", flush=True)
+    return 0, 0, (None, differing(lines, theirs, at))
+
+
+def owning_turns(seed, size, modes, buffer, numbers):
+    """The operations of an owning queue over a queue with these numbers."""
+    script, rng = Owning(size, modes, buffer), random.Random(f"{seed} owning wrap {size} {modes}")
+    script.adds, script.count = size + int(numbers[5]), int(numbers[6])
+    for _ in range(500):
+        some_turn(script, rng)
+    return script.ops[1:]
+
+
+def compare_owning_wrap(ours, seed, size, modes, buffer):
+    """The same for an owning queue over a queue short of the wrap: the crate made all adds, ours is forged to be what the crate showed then."""
+    *done, _ = pieces(seed, size, modes, 65_450, 65_450)
+    before = run(ORACLE, joined(done))
+    ops = owning_turns(seed, size, modes, buffer, before[-4].split())
+    theirs = run(ORACLE, joined([*done, ops]))[len(before):]
+    lines = run(ours, joined([carried(done[0][0], before) + ops]))[1:]
+    at = first_difference(lines, theirs)
+    if at is None:
+        return 1, len(lines), None
+    print(f"the owning wrap of size {size}, modes {modes}, line {at + 1}", flush=True)
     return 0, 0, (None, differing(lines, theirs, at))

@@ -1,5 +1,6 @@
 //! Times adds and pops of the crate's queue and of ours, and prints a table of nanoseconds for each operation and the ratios.
 mod driver;
+mod exported;
 mod memory;
 mod original;
 mod ours;

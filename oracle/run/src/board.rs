@@ -1,11 +1,45 @@
-//! A queue of the crate, the buffers that it has, and what can be seen of it.
-use crate::calls::{Calls, number, open};
+//! A queue of the crate, owning or not, and what can be seen of it.
+use crate::buffers::{Buffers, starts};
+use crate::calls::{Calls, SIZES, number, open};
 use crate::host::{self, Port};
-use crate::script::{Lent, List};
-use std::collections::HashMap;
+use crate::line::sum_bytes;
+use crate::owned;
+use crate::owns::{BUFFER_SIZES, Owns};
+use crate::script::{Ask, Lent, List, Op, lends};
+use queue::{Error, Result};
+use std::panic::{AssertUnwindSafe, catch_unwind};
 
-/// The number and the value of an answer.
-pub type Answer = (u32, u64);
+/// The number and the value of an answer, and what its line has more at the end.
+pub struct Answer {
+    pub number: u32,
+    pub value: u64,
+    pub more: Vec<u64>,
+}
+
+impl Answer {
+    pub fn new(number: u32, value: u64) -> Answer {
+        let more = Vec::new();
+        Answer {
+            number,
+            value,
+            more,
+        }
+    }
+
+    fn of(told: Result<impl Into<u64>>) -> Answer {
+        match told {
+            Ok(value) => Answer::new(0, value.into()),
+            Err(error) => Answer::new(number(error), 0),
+        }
+    }
+
+    /// An owning queue's line has the shown part's place, count and sum, and what is held: nothing, after the crate's calls.
+    fn owning(mut self, shown: [u64; 3]) -> Answer {
+        self.more.extend(shown);
+        self.more.extend([0, 0]);
+        self
+    }
+}
 
 /// The private fields, as the derived Debug shows them; a refused new has the all-zero ones.
 #[derive(Default)]
@@ -35,38 +69,19 @@ impl View {
     }
 }
 
+enum Kind {
+    Plain(Box<dyn Calls>),
+    Owning(Box<dyn Owns>),
+}
+
 pub struct Board {
-    pub queue: Box<dyn Calls>,
+    queue: Kind,
     pub view: View,
-    size: usize,
-    modes: u64,
-    /// Real buffers stay as long as the queue may think it has them.
-    held: HashMap<u16, [Vec<Box<[u8]>>; 2]>,
+    ask: Ask,
+    port: Port,
 }
 
-/// One byte more than asked for, so that an empty buffer has a start of its own too.
-fn real(list: &List) -> [Vec<Box<[u8]>>; 2] {
-    let buffer = |(_, len): &(u64, u32)| vec![0; *len as usize + 1].into_boxed_slice();
-    [0, 1].map(|side: usize| list[side].iter().map(buffer).collect())
-}
-
-fn starts(real: &[Vec<Box<[u8]>>; 2], list: &List) -> Vec<(usize, u64)> {
-    let both = real.iter().flatten().zip(list.iter().flatten());
-    both.map(|(buffer, (address, _))| (buffer.as_ptr().addr(), *address))
-        .collect()
-}
-
-fn lend(real: &[Box<[u8]>]) -> Vec<&[u8]> {
-    real.iter().map(|b| b.split_last().unwrap().1).collect()
-}
-
-fn lend_mut(real: &mut [Box<[u8]>]) -> Vec<&mut [u8]> {
-    real.iter_mut()
-        .map(|b| b.split_last_mut().unwrap().1)
-        .collect()
-}
-
-/// Every lent byte becomes 165, as operation 1 has it.
+/// Every lent byte becomes 165, as operations 1 and 25 have it.
 pub fn fill(lent: Lent) {
     for (which, count) in lent.bytes.into_iter().enumerate() {
         host::store(which, 0, &vec![165; count]);
@@ -74,10 +89,10 @@ pub fn fill(lent: Lent) {
 }
 
 /// The crate wants zeroed pages and clears nothing; ours clears the parts only, so the rest is put back.
-fn put_back(port: &Port, size: usize) {
+fn put_back(port: &Port) {
     for (which, mut wanted) in host::before().into_iter().enumerate() {
         let mut made = host::look(which, |bytes| bytes[..wanted.len()].to_vec());
-        for (_, part) in port.parts(size).into_iter().filter(|part| part.0 == which) {
+        for (_, part) in port.parts().into_iter().filter(|part| part.0 == which) {
             wanted[part.clone()].copy_from_slice(&made[part.clone()]);
             made[part].fill(0);
         }
@@ -90,81 +105,147 @@ fn put_back(port: &Port, size: usize) {
 }
 
 impl Board {
-    /// None for a size that the crate would refuse when it is compiled, or that is above 64.
-    pub fn new(size: u64, modes: u64) -> Option<Board> {
-        let mut port = Port::new(modes & 4 != 0);
-        let queue = open(size, &mut port, modes & 1 != 0, modes & 2 != 0)?;
-        let size = size as usize;
-        put_back(&port, size);
-        let view = View::read(&queue.text(), size);
-        let held = HashMap::new();
-        Some(Board {
+    /// A size that no queue can have is refused by number 5 here, as the crate refuses it unrun.
+    pub fn new(ask: Ask) -> std::result::Result<Board, u32> {
+        if !SIZES.contains(&ask.size) {
+            return Err(5);
+        }
+        let mut port = Port::new(ask);
+        let queue = open(&ask, &mut port).map_err(number)?;
+        put_back(&port);
+        let view = View::read(&queue.text(), ask.size);
+        let queue = Kind::Plain(queue);
+        Ok(Board {
             queue,
             view,
-            size,
-            modes,
-            held,
+            ask,
+            port,
         })
     }
 
-    /// Whether what is lent has the bytes that the layout and the modes need.
+    /// Whether what is lent has the bytes that the layout and the modes need, at bases that a queue can have.
     pub fn suits(&self, lent: Lent) -> bool {
-        let (first, used) = (18 * self.size + 6, 6 + 8 * self.size);
-        let page = |bytes: usize| bytes.div_ceil(4096) * 4096;
-        let [one, two] = if self.modes & 4 != 0 {
-            [page(first) + page(used), 0]
-        } else {
-            [first, used]
-        };
-        let pool = if self.modes & 1 != 0 {
-            16 * self.size * self.size
-        } else {
-            0
-        };
-        one <= lent.bytes[0] && two <= lent.bytes[1] && pool <= lent.bytes[2]
+        self.ask.suits(lent)
+    }
+
+    /// The answer of a new that was not refused.
+    pub fn made(&self) -> Answer {
+        let mut answer = Answer::new(0, 0);
+        if self.ask.whole {
+            answer.more.extend(self.port.told);
+        }
+        answer
     }
 
     /// To be called after every operation that may change the queue.
     pub fn refresh(&mut self) {
-        self.view = View::read(&self.queue.text(), self.size);
+        let text = match &self.queue {
+            Kind::Plain(queue) => queue.text(),
+            Kind::Owning(queue) => queue.text(),
+        };
+        self.view = View::read(&text, self.ask.size);
         for (slot, bytes) in host::live_lists() {
             host::store(2, slot, &bytes);
         }
     }
 
-    pub fn add(&mut self, list: &List) -> Answer {
-        let mut buffers = real(list);
-        let slot = 16 * self.size * self.view.free_head as usize;
-        host::name_buffers(starts(&buffers, list), slot);
-        let [inputs, outputs] = &mut buffers;
-        let answer = self.queue.add(&lend(inputs), &mut lend_mut(outputs));
-        host::name_buffers(Vec::new(), 0);
-        match answer {
-            Ok(token) => {
-                self.held.insert(token, buffers);
-                (0, token.into())
-            }
-            Err(error) => (number(error), 0),
-        }
+    /// available_desc's value, which is reckoned where the owning queue hides it; a damaged queue panics when it is asked.
+    pub fn available(&self) -> String {
+        let (size, num_used) = (self.ask.size as u64, self.view.num_used);
+        let told = match &self.queue {
+            Kind::Plain(queue) => catch_unwind(AssertUnwindSafe(|| queue.avail() as u64)).ok(),
+            Kind::Owning(_) if self.ask.indirect() && num_used != size => Some(size),
+            Kind::Owning(_) => size.checked_sub(num_used),
+        };
+        told.map_or("panic".into(), |count| count.to_string())
     }
 
-    /// Fresh buffers of the script's lengths, since the crate looks at no more than these.
-    pub fn pop(&mut self, token: u16, list: &List) -> Answer {
-        let [inputs, mut outputs] = real(list);
-        match self
-            .queue
-            .pop(token, &lend(&inputs), &mut lend_mut(&mut outputs))
-        {
-            Ok(len) => {
-                self.held.remove(&token);
-                (0, len.into())
-            }
-            Err(error) => (number(error), 0),
-        }
+    /// None for what the crate cannot be asked.
+    pub fn call(&mut self, op: Op) -> Option<Answer> {
+        let slot = 16 * self.ask.size * self.view.free_head as usize;
+        let answer = match &mut self.queue {
+            Kind::Plain(queue) => call_plain(queue.as_mut(), op, slot)?,
+            Kind::Owning(queue) => call_owning(queue.as_mut(), op, &mut self.port)?,
+        };
+        self.refresh();
+        Some(answer)
     }
 
-    /// Nothing to see is number 3, as in the scope paper.
-    pub fn peek(&self) -> Answer {
-        self.queue.peek().map_or((3, 0), |token| (0, token.into()))
+    /// Whether the crate can be asked for an owning queue with such buffers, in a store such as ours would take.
+    pub fn can_own(&self, base: u64, size: u32, bytes: usize) -> bool {
+        matches!(self.queue, Kind::Plain(_))
+            && BUFFER_SIZES.contains(&size)
+            && lends(base, self.ask.size * size as usize, bytes)
     }
+
+    /// An owning queue over this one, which is lost where the crate refuses.
+    pub fn own(self, base: u64, size: u32) -> (Option<Board>, Answer) {
+        let Kind::Plain(queue) = self.queue else {
+            unreachable!("an owning queue over an owning one")
+        };
+        owned::begin(base, size as usize);
+        match queue.own(size) {
+            Ok(owning) => {
+                let queue = Kind::Owning(owning);
+                let mut board = Board { queue, ..self };
+                board.refresh();
+                (Some(board), Answer::new(0, 0).owning([0; 3]))
+            }
+            Err(error) => (None, Answer::new(number(error), 0).owning([0; 3])),
+        }
+    }
+}
+
+fn call_plain(queue: &mut dyn Calls, op: Op, slot: usize) -> Option<Answer> {
+    Some(match op {
+        Op::Add(Some(list)) => Answer::of(add(queue, &list, slot)),
+        Op::Pop(token, Some(list)) if token < 65536 => {
+            let mut buffers = Buffers::new(&list);
+            Answer::of(queue.pop(token as u16, &buffers.inputs, &mut buffers.outputs))
+        }
+        Op::Peek => Answer::of(queue.peek().ok_or(Error::NotReady)),
+        Op::CanPop => Answer::new(0, queue.can().into()),
+        Op::ShouldNotify => Answer::new(0, queue.notify().into()),
+        Op::SetDevNotify(wanted) => {
+            queue.dev_notify(wanted);
+            Answer::new(0, 0)
+        }
+        _ => return None,
+    })
+}
+
+fn add(queue: &mut dyn Calls, list: &List, slot: usize) -> Result<u16> {
+    let mut buffers = Buffers::new(list);
+    host::name_buffers(starts(list), slot);
+    let told = queue.add(&buffers.inputs, &mut buffers.outputs);
+    host::name_buffers(Vec::new(), 0);
+    told
+}
+
+fn call_owning(queue: &mut dyn Owns, op: Op, port: &mut Port) -> Option<Answer> {
+    Some(match op {
+        Op::Poll => poll(queue, port),
+        Op::OwnShouldNotify => Answer::new(0, queue.notify().into()).owning([0; 3]),
+        Op::OwnSetDevNotify(wanted) => {
+            queue.dev_notify(wanted);
+            Answer::new(0, 0).owning([0; 3])
+        }
+        _ => return None,
+    })
+}
+
+/// The token is the number of the buffer that the handler was shown.
+fn poll(queue: &mut dyn Owns, port: &mut Port) -> Answer {
+    port.notified = false;
+    let mut answer = match queue.poll(port) {
+        Ok(Some((start, bytes))) => {
+            let (token, place) = owned::place(start);
+            let shown = [place as u64, bytes.len() as u64, sum_bytes(0, &bytes)];
+            Answer::new(0, token as u64).owning(shown)
+        }
+        Ok(None) => Answer::new(0, 0).owning([0; 3]),
+        Err(error) => Answer::new(number(error), 0).owning([0; 3]),
+    };
+    answer.more.push(port.notified.into());
+    answer
 }

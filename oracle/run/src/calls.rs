@@ -1,5 +1,7 @@
 //! One face for queues of every size, since the size is a const parameter of the crate's type.
 use crate::host::{Port, Script};
+use crate::owns::{Owns, own};
+use crate::script::Ask;
 use crate::trace::watch;
 use queue::{Error, Result, VirtQueue};
 
@@ -16,6 +18,8 @@ pub trait Calls {
     fn notify(&self) -> bool;
     fn dev_notify(&mut self, wanted: bool);
     fn avail(&self) -> usize;
+    /// Makes an owning queue of it, with buffers of a size that the program is built for.
+    fn own(self: Box<Self>, size: u32) -> Result<Box<dyn Owns>>;
     /// The derived Debug text, the only sight of the private fields.
     fn text(&self) -> String;
 }
@@ -56,23 +60,31 @@ impl<const N: usize> Calls for VirtQueue<Script, N> {
         self.available_desc()
     }
 
+    fn own(self: Box<Self>, size: u32) -> Result<Box<dyn Owns>> {
+        own(*self, size)
+    }
+
     fn text(&self) -> String {
         format!("{self:?}")
     }
 }
 
-/// None for a size that the crate would refuse when it is compiled, or that is above 64.
-pub fn open(size: u64, port: &mut Port, indirect: bool, event: bool) -> Option<Box<dyn Calls>> {
+/// The sizes that the program is built for. The crate does not compile for a size that is no power of two, and would take larger ones.
+pub const SIZES: [usize; 7] = [1, 2, 4, 8, 16, 32, 64];
+
+/// A queue of one of these sizes.
+pub fn open(ask: &Ask, port: &mut Port) -> Result<Box<dyn Calls>> {
     macro_rules! sizes {
-        ($($n:literal)*) => {
-            match size {
-                $($n => VirtQueue::<Script, $n>::new(port, 0, indirect, event)
-                    .map(|queue| Box::new(queue) as Box<dyn Calls>),)*
-                _ => return None,
+        ($($i:literal)*) => {
+            match ask.size {
+                $(size if size == SIZES[$i] =>
+                    VirtQueue::<Script, { SIZES[$i] }>::new(port, 0, ask.indirect(), ask.event())
+                        .map(|queue| Box::new(queue) as Box<dyn Calls>),)*
+                _ => unreachable!("a size that the program is not built for"),
             }
         };
     }
-    Some(sizes!(1 2 4 8 16 32 64).expect("a port that refuses nothing"))
+    sizes!(0 1 2 3 4 5 6)
 }
 
 /// The numbers of the scope paper for the crate's errors.

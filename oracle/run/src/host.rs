@@ -1,5 +1,6 @@
 //! The host that the queue talks to: memory, addresses and transport as the script wants them.
-use crate::script::LARGEST;
+use crate::owned;
+use crate::script::{Ask, LARGEST};
 use queue::hal::{BufferDirection, Hal, PhysAddr};
 use queue::{PAGE_SIZE, transport::Transport};
 use std::alloc::{Layout, alloc_zeroed};
@@ -8,13 +9,12 @@ use std::hint::black_box;
 use std::ops::Range;
 use std::{cell::RefCell, ptr::NonNull};
 
-/// The addresses of region one, region two and the pool.
-const BASES: [PhysAddr; 3] = [4096, 65536, 131072];
-
 /// What share and dma_alloc look up, since they have no self to keep it in.
 struct Host {
     /// Region one and two, and the pool, which the crate does not know of: its lists are copied there.
     memory: [NonNull<u8>; 3],
+    /// Their addresses.
+    bases: [PhysAddr; 3],
     /// What the pages of each region that the current queue asked for held before they were zeroed.
     before: Vec<Vec<u8>>,
     /// Real start and script address of each buffer of the add under way.
@@ -34,6 +34,7 @@ fn memory(size: usize) -> NonNull<u8> {
 
 thread_local!(static HOST: RefCell<Host> = RefCell::new(Host {
     memory: LARGEST.map(memory),
+    bases: [0; 3],
     before: Vec::new(),
     buffers: Vec::new(),
     slot: 0,
@@ -61,18 +62,21 @@ unsafe impl Hal for Script {
                     .push(std::slice::from_raw_parts(start, bytes).to_vec());
                 start.write_bytes(0, bytes);
             }
-            (BASES[which], host.memory[which])
+            (host.bases[which], host.memory[which])
         })
     }
 
-    /// A start that the script did not name is a heap list of the queue's own, told as its slot.
+    /// A start that the script did not name is an owning queue's buffer, or a heap list of the queue's own, told as its slot.
     unsafe fn share(buffer: NonNull<[u8]>, _: BufferDirection) -> PhysAddr {
         let start = buffer.cast::<u8>().as_ptr().expose_provenance();
+        if let Some(address) = owned::address(start) {
+            return address;
+        }
         with(|host| match host.buffers.iter().find(|b| b.0 == start) {
             Some(buffer) => buffer.1,
             None => {
                 host.lists.insert(host.slot, (start, buffer.len()));
-                BASES[2] + host.slot as u64
+                host.bases[2] + host.slot as u64
             }
         })
     }
@@ -83,6 +87,13 @@ unsafe impl Hal for Script {
         let start = buffer.cast::<u8>().as_ptr().addr();
         with(|host| host.lists.retain(|_, list| list.0 != start));
     }
+}
+
+/// Forgets an earlier queue's regions, lists and store.
+pub fn forget() {
+    with(|host| (host.before, host.lists) = (Vec::new(), BTreeMap::new()));
+    owned::forget();
+    crate::trace::forget_lists();
 }
 
 /// Names the buffers of the next add and the slot of its list; with none it ends it.
@@ -146,29 +157,36 @@ pub fn pool_to_lists() {
     }
 }
 
-/// The transport's part: the layout that new asks for, and the addresses it is told.
+/// The transport's part: what new asks it, the addresses it is told, and whether the device was notified.
 pub struct Port {
-    legacy: bool,
-    told: [PhysAddr; 3],
+    ask: Ask,
+    pub told: [PhysAddr; 3],
+    pub notified: bool,
 }
 
 impl Port {
-    /// Forgets an earlier queue's regions and lists.
-    pub fn new(legacy: bool) -> Self {
-        with(|host| (host.before, host.lists) = (Vec::new(), BTreeMap::new()));
-        crate::trace::forget_lists();
+    /// Bases that no Hal may hand out are not handed out.
+    pub fn new(ask: Ask) -> Self {
+        let bases = if ask.suits(ask.lent) {
+            ask.bases
+        } else {
+            [0; 3]
+        };
+        with(|host| host.bases = bases);
         Port {
-            legacy,
+            ask,
             told: [0; 3],
+            notified: false,
         }
     }
 
     /// Where table, available ring and used ring lie, found as a device would find them.
-    pub fn parts(&self, size: usize) -> [(usize, Range<usize>); 3] {
+    pub fn parts(&self) -> [(usize, Range<usize>); 3] {
+        let size = self.ask.size;
         let bytes = [16 * size, 6 + 2 * size, 6 + 8 * size];
-        [0, 1, 2].map(|part| {
-            let which = usize::from(self.told[part] >= BASES[1]);
-            let from = (self.told[part] - BASES[which]) as usize;
+        let used = usize::from(!self.ask.legacy());
+        [(0, 0), (1, 0), (2, used)].map(|(part, which)| {
+            let from = (self.told[part] - with(|host| host.bases[which])) as usize;
             (which, from..from + bytes[part])
         })
     }
@@ -176,21 +194,23 @@ impl Port {
 
 impl Transport for Port {
     fn queue_used(&mut self, _: u16) -> bool {
-        false
+        self.ask.in_use
     }
 
     fn max_queue_size(&mut self, _: u16) -> u32 {
-        64
+        self.ask.most
     }
 
     fn requires_legacy_layout(&self) -> bool {
-        self.legacy
+        self.ask.legacy()
     }
 
     fn queue_set(&mut self, _: u16, _: u32, table: PhysAddr, avail: PhysAddr, used: PhysAddr) {
         self.told = [table, avail, used];
     }
 
-    /// Never reached, as no operation makes the queue notify by itself.
-    fn notify(&mut self, _: u16) {}
+    /// Reached by an owning queue's poll only.
+    fn notify(&mut self, _: u16) {
+        self.notified = true;
+    }
 }

@@ -1,5 +1,5 @@
 //! The line of an answer, as docs/SCRIPTS.md says it.
-use crate::board::{Answer, View};
+use crate::board::View;
 use crate::host;
 use crate::script::Lent;
 
@@ -10,7 +10,7 @@ fn sum(start: u64, numbers: impl IntoIterator<Item = u64>) -> u64 {
     numbers.into_iter().fold(start, mixed)
 }
 
-fn sum_bytes(start: u64, bytes: &[u8]) -> u64 {
+pub fn sum_bytes(start: u64, bytes: &[u8]) -> u64 {
     sum(start, bytes.iter().map(|byte| u64::from(*byte)))
 }
 
@@ -29,8 +29,8 @@ fn dump(which: usize, lent: Lent) -> String {
     host::look(which, |bytes| digits(&bytes[..lent.bytes[which]]))
 }
 
-/// What is available comes as text, since a damaged queue panics when it is asked.
-pub fn line(op: u64, answer: Answer, view: &View, available: &str, lent: Lent) -> String {
+/// What is answered and what is available come as text, since a call may panic, and a damaged queue does when it is asked.
+pub fn line(answer: &str, view: &View, available: &str, more: &[u64], lent: Lent) -> String {
     let View {
         num_used,
         free_head,
@@ -41,9 +41,12 @@ pub fn line(op: u64, answer: Answer, view: &View, available: &str, lent: Lent) -
     let memory = sum_region(sum_region(0, 0, lent), 1, lent);
     let shadow = sum(0, shadow.iter().copied());
     let lists = sum_lists();
-    let mut text = format!("{op} {} {} ", answer.0, answer.1);
-    text += &format!("{free_head} {num_used} {avail_idx} {last_used_idx} {available} ");
-    text += &format!("{memory} {shadow} {lists}\n");
+    let mut text = format!("{answer} {free_head} {num_used} {avail_idx} {last_used_idx} ");
+    text += &format!("{available} {memory} {shadow} {lists}");
+    for number in more {
+        text += &format!(" {number}");
+    }
+    text.push('\n');
     if lent.show == 2 {
         for which in 0..3 {
             text += &dump(which, lent);

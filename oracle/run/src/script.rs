@@ -43,6 +43,26 @@ impl<'t> Numbers<'t> {
         }
     }
 
+    /// What new is asked: all of it by operation 25, and by operation 1 what lets a new queue be made.
+    fn ask(&mut self, whole: bool) -> Ask {
+        let (size, modes) = (self.next() as u32, self.next());
+        let (in_use, most, bases) = if whole {
+            let told = (self.next() != 0, self.next() as u32);
+            (told.0, told.1, [(); 3].map(|()| self.next()))
+        } else {
+            (false, 64, [4096, 65536, 131072])
+        };
+        Ask {
+            size: size as usize,
+            modes,
+            in_use,
+            most,
+            bases,
+            lent: self.lent(),
+            whole,
+        }
+    }
+
     /// None for an input after an output, which the crate's two parameters cannot say.
     fn list(&mut self) -> Option<List> {
         let counts = [self.capped(80), self.capped(80), self.capped(80)];
@@ -60,8 +80,9 @@ impl<'t> Numbers<'t> {
     }
 }
 
-/// How many bytes there are of region one, region two and the pool, in our own program too.
+/// How many bytes there are of region one, region two and the pool, in our own program too; and of the store.
 pub const LARGEST: [usize; 3] = [65536, 65536, 65536];
+pub const STORE: usize = 65536;
 
 /// How many bytes of each are lent, and what lines show.
 #[derive(Clone, Copy)]
@@ -70,15 +91,62 @@ pub struct Lent {
     pub show: u64,
 }
 
+/// What new is asked.
+#[derive(Clone, Copy)]
+pub struct Ask {
+    pub size: usize,
+    pub modes: u64,
+    pub in_use: bool,
+    pub most: u32,
+    pub bases: [u64; 3],
+    pub lent: Lent,
+    /// Whether the line tells the three addresses.
+    pub whole: bool,
+}
+
+/// Whether a region of these bytes at this base does for a need, as the scope paper has it.
+pub fn lends(base: u64, need: usize, bytes: usize) -> bool {
+    let end = u128::from(base) + need as u128;
+    need == 0 || need <= bytes && base.is_multiple_of(4096) && end <= 1 << 64
+}
+
+impl Ask {
+    pub fn indirect(&self) -> bool {
+        self.modes & 1 != 0
+    }
+
+    pub fn event(&self) -> bool {
+        self.modes & 2 != 0
+    }
+
+    pub fn legacy(&self) -> bool {
+        self.modes & 4 != 0
+    }
+
+    fn needs(&self) -> [usize; 3] {
+        let (first, used) = (18 * self.size + 6, 6 + 8 * self.size);
+        let page = |bytes: usize| bytes.div_ceil(4096) * 4096;
+        let [one, two] = if self.legacy() {
+            [page(first) + page(used), 0]
+        } else {
+            [first, used]
+        };
+        let pool = 16 * self.size * self.size;
+        [one, two, if self.indirect() { pool } else { 0 }]
+    }
+
+    /// Whether what is lent, at these bases, is what a queue of this size needs.
+    pub fn suits(&self, lent: Lent) -> bool {
+        let needs = self.needs();
+        (0..3).all(|i| lends(self.bases[i], needs[i], lent.bytes[i]))
+    }
+}
+
 /// Addresses and sizes of the inputs and of the outputs.
 pub type List = [Vec<(u64, u32)>; 2];
 
 pub enum Op {
-    New {
-        size: u64,
-        modes: u64,
-        lent: Lent,
-    },
+    New(Ask),
     Add(Option<List>),
     Pop(u32, Option<List>),
     Peek,
@@ -87,6 +155,11 @@ pub enum Op {
     SetDevNotify(bool),
     Store([u64; 4]),
     Lend(Lent),
+    /// The store's base, a buffer's size, and the store's length.
+    Own(u64, u32, usize),
+    Poll,
+    OwnShouldNotify,
+    OwnSetDevNotify(bool),
     /// What only our own program can be asked.
     Ours,
     /// Passed over.
@@ -97,11 +170,7 @@ pub enum Op {
 pub fn operation(numbers: &mut Numbers) -> (u64, Op) {
     let number = numbers.next();
     let op = match number {
-        1 => Op::New {
-            size: u64::from(numbers.next() as u32),
-            modes: numbers.next(),
-            lent: numbers.lent(),
-        },
+        1 | 25 => Op::New(numbers.ask(number == 25)),
         2..=5 => {
             let (token, list) = (numbers.next() as u32, numbers.list());
             match number {
@@ -110,13 +179,14 @@ pub fn operation(numbers: &mut Numbers) -> (u64, Op) {
                 _ => Op::Ours,
             }
         }
-        6..=12 => plain(number, numbers.next()),
+        6..=12 | 19..=23 => plain(number, numbers.next()),
         13 => Op::Store([(); 4].map(|()| numbers.next())),
-        14..=16 => {
+        14..=16 | 24 => {
             numbers.many(4);
             Op::Ours
         }
         17 => Op::Lend(numbers.lent()),
+        18 => Op::Own(numbers.next(), numbers.next() as u32, numbers.capped(STORE)),
         _ => Op::Other,
     };
     (number, op)
@@ -128,6 +198,9 @@ fn plain(number: u64, asked: u64) -> Op {
         10 => Op::CanPop,
         11 => Op::ShouldNotify,
         12 => Op::SetDevNotify(asked as u32 != 0),
+        21 => Op::Poll,
+        22 => Op::OwnShouldNotify,
+        23 => Op::OwnSetDevNotify(asked as u32 != 0),
         _ => Op::Ours,
     }
 }

@@ -1,4 +1,4 @@
-//! Notes the loads and stores of shared memory that the crate makes (x86-64 Linux): the pages are closed during a call,
+//! Notes the loads and stores of shared memory that a queue makes (x86-64 Linux): the pages are closed during a call,
 //! a fault tells the address and opens its page for one instruction, and the trap after that closes it again.
 use std::alloc::{GlobalAlloc, Layout, System};
 use std::cell::UnsafeCell;
@@ -61,11 +61,14 @@ static WATCHING: AtomicBool = AtomicBool::new(false);
 /// Indirect lists lie here, one slot each, so that their entries are noted too.
 static LISTS: Arena = Arena(Cell(UnsafeCell::new([[0; 1024]; 64])));
 static TAKEN: AtomicU64 = AtomicU64::new(0);
+/// Whether the next calls are watched.
+static WANTED: AtomicBool = AtomicBool::new(false);
 /// Start and bytes of region one, region two and the lists; none before `begin`.
 static PARTS: [[AtomicUsize; 2]; 3] = [const { [const { AtomicUsize::new(0) }; 2] }; 3];
 
-fn lists() -> usize {
-    LISTS.0.0.get().addr()
+/// Start and bytes of where the indirect lists lie.
+pub fn lists() -> (usize, usize) {
+    (LISTS.0.0.get().addr(), size_of::<Arena>())
 }
 
 fn parts() -> [(usize, usize); 3] {
@@ -140,15 +143,19 @@ extern "C" fn trap(_: c_int, _: *const usize, context: *mut usize) {
     }
 }
 
-/// From now on calls are watched; the two regions are told by start and bytes.
-pub fn begin(regions: [(usize, usize); 2]) {
-    let told = [regions[0], regions[1], (lists(), size_of::<Arena>())];
+/// Calls can be watched from now on; the two regions and the lists are told by start and bytes.
+pub fn begin(told: [(usize, usize); 3]) {
     for (part, (start, bytes)) in PARTS.iter().zip(told) {
         part[0].store(start, Relaxed);
         part[1].store(bytes, Relaxed);
     }
     handle(SEGV, fault as *const () as usize);
     handle(TRAP, trap as *const () as usize);
+}
+
+/// Whether calls are watched from now on.
+pub fn want(wanted: bool) {
+    WANTED.store(wanted, Relaxed);
 }
 
 /// A new queue has no lists, whatever an earlier one left.
@@ -182,9 +189,9 @@ impl Drop for Watch {
     }
 }
 
-/// Makes a call of the crate, and notes its accesses if they are asked for.
+/// Makes a call, and notes its accesses if they are asked for.
 pub fn watch<T>(call: impl FnOnce() -> T) -> T {
-    let _watch = (parts()[0].1 != 0).then(Watch::start);
+    let _watch = WANTED.load(Relaxed).then(Watch::start);
     call()
 }
 
@@ -234,8 +241,8 @@ unsafe impl GlobalAlloc for Lists {
     }
 
     unsafe fn dealloc(&self, start: *mut u8, layout: Layout) {
-        match start.addr().wrapping_sub(lists()) {
-            offset if offset < size_of::<Arena>() => {
+        match start.addr().wrapping_sub(lists().0) {
+            offset if offset < lists().1 => {
                 TAKEN.fetch_and(!(1 << (offset / 1024)), Relaxed);
             }
             // SAFETY: as the caller vouches.
