@@ -43,6 +43,10 @@
 --   OwnViews      a view lies inside its own token's buffer, and only a poll has one
 --   OwnPoll       poll and release, exactly
 --   OwnKeeps      every call leaves a good record good; no buffer is lost or doubled
+--   OwnBetween    so does a poll between whose look and pop the device writes
+--   OwnShown      what a poll shows is what is viewed afterwards
+--   OwnDepends    what owning answers depend on, of memory and store; what becomes of the store
+--   OwnChanges    which bytes of memory owning calls may change
 pub mod WellFormedIs
 pub mod Placed
 pub mod Held
@@ -88,3 +92,7 @@ pub mod OwnNew
 pub mod OwnViews
 pub mod OwnPoll
 pub mod OwnKeeps
+pub mod OwnBetween
+pub mod OwnShown
+pub mod OwnDepends
+pub mod OwnChanges

@@ -8,7 +8,7 @@ use native.Mathlib.Omega.{arith}
 use native.Mathlib.Nat.{suc-mul, mul-le-mul-right}
 use borrow.Author.Tests.{lt-ltb, le-leb, eq-eqb, ltb-true, ltb-false, leb-true, eqb-true, eqb-false, not-true, not-false}
 use lib.Dec.{ltb, leb, eqb}
-use Rattle.lists.specs.Pick.{Test, _when_, first, every}
+use Rattle.lists.specs.Pick.{first, every}
 use Rattle.lists.specs.PickLaws.{every-true, true-every, first-none, none-first, NoneOf}
 use Rattle.lists.specs.Tests.{by-test, by-eq, and-left, and-right, and-both, implied, implies, false-not}
 use Rattle.virtio.specs.declared.Buffer.{Buffer}
@@ -19,7 +19,7 @@ use Rattle.rules.specs.Record.{Queue, outstanding, buffersOf, isOpen}
 use Rattle.rules.specs.WellFormed.{baseOk, broken, wellFormed}
 use Rattle.rules.specs.Meaning.{WellFormed, Out, Based}
 use Rattle.rules.specs.Calls.{sameList}
-use Rattle.rules.specs.Owning.{Owning, ownBuffer, ownList, sizeAllowed, own-clause, held-clause, ownBroken, ownWellFormed}
+use Rattle.rules.specs.Owning.{Owning, ownBuffer, ownList, sizeAllowed, own-clause, held-clause, placed-clause, ownTests, ownBroken, ownWellFormed}
 use Rattle.laws.specs.WellFormedIs.{well-formed-means, means-well-formed, based-means, means-based, out-means, means-out}
 use Rattle.laws.specs.CallKeeps.{Good, none-open}
 
@@ -108,21 +108,13 @@ module _ (o : Owning) where
   abbrev q : Queue
   q = o .queue
 
-  -- the tests beyond the queue's own
-  abbrev tests : List Test
-  tests =
-      (11 when isOpen (q .call))
-      ∷ (12 when not (baseOk (o .base) (q .n * o .size) && sizeAllowed (o .size)))
-      ∷ (13 when not (own-clause o))
-      ∷ (14 when not (held-clause o (o .held)))
-      ∷ []
-
-  none-broken : ownWellFormed o ≡ true → (wellFormed q ≡ true) × NoneOf tests
+  -- none of the tests fails, neither the queue's nor those of its buffers
+  pub none-broken : ownWellFormed o ≡ true → (wellFormed q ≡ true) × NoneOf (ownTests o)
   unfolding ownWellFormed ownBroken wellFormed
   none-broken e = go (wellFormed q) refl (eqb-true (ownBroken o) 0 e)
     where
-      go : (b : Bool) → wellFormed q ≡ b → cond b (first tests) (broken q) ≡ 0 → (wellFormed q ≡ true) × NoneOf tests
-      go true f z = (f, first-none tests (omega arith) z)
+      go : (b : Bool) → wellFormed q ≡ b → cond b (first (ownTests o)) (broken q) ≡ 0 → (wellFormed q ≡ true) × NoneOf (ownTests o)
+      go true f z = (f, first-none (ownTests o) (omega arith) z)
       go false f z = absurd (true≢false (sym (eq-eqb (broken q) 0 z) ∙ f))
 
   -- what a held token's clause says
@@ -184,7 +176,7 @@ module _ (o : Owning) where
   pub own-means : ownWellFormed o ≡ true → OwnWell o
   own-means e =
       let t = none-broken e in
-      let b : (baseOk (o .base) (q .n * o .size) && sizeAllowed (o .size)) ≡ true = not-false _ (t .1 .1 .0) in
+      let b : placed-clause o ≡ true = not-false _ (t .1 .1 .0) in
       let z : (leb 1 (o .size) && leb (o .size) 1024) ≡ true = and-right (baseOk (o .base) (q .n * o .size)) (sizeAllowed (o .size)) b in
       let c : own-clause o ≡ true = not-false _ (t .1 .1 .1 .0) in
       let h : held-clause o (o .held) ≡ true = not-false _ (t .1 .1 .1 .1 .0) in
@@ -256,11 +248,11 @@ module _ (o : Owning) where
     pub means-own : ownWellFormed o ≡ true
     unfolding ownWellFormed ownBroken
     means-own =
-        let b : (baseOk (o .base) (q .n * o .size) && sizeAllowed (o .size)) ≡ true =
+        let b : placed-clause o ≡ true =
         and-both (baseOk (o .base) (q .n * o .size)) (sizeAllowed (o .size)) (means-based (o .base) (q .n * o .size) (w .based))
         (and-both (leb 1 (o .size)) (leb (o .size) 1024) (le-leb 1 (o .size) (w .some)) (le-leb (o .size) 1024 (w .most))) in
-        ap (λ c. eqb (cond c (first tests) (broken q)) 0) (means-well-formed q (w .queue))
-        ∙ eq-eqb (first tests) 0 (none-first tests (ap isOpen (w .idle), (ap not b, (ap not lists-if, (ap not (held-if (o .held) refl), tt)))))
+        ap (λ c. eqb (cond c (first (ownTests o)) (broken q)) 0) (means-well-formed q (w .queue))
+        ∙ eq-eqb (first (ownTests o)) 0 (none-first (ownTests o) (ap isOpen (w .idle), (ap not b, (ap not lists-if, (ap not (held-if (o .held) refl), tt)))))
 
 -- ---- a good owning record: its queue is one as private memory can hold it, and it passes the test
 

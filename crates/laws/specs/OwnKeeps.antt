@@ -97,7 +97,7 @@ module _ (o : Owning) (m : Memory) (s : List ℕ) (g : OwnGood o) where
     store = ap (λ (y : Owned). y .store) e ∙ d;
   }
 
-  as-was : (r : Owned) (k : ℕ) → r ≡ ownRefused o k m s → Keeps o s r
+  pub as-was : (r : Owned) (k : ℕ) → r ≡ ownRefused o k m s → Keeps o s r
   as-was r k e = still r (ap (λ (y : Owned). y .owning) e) (ap (λ (y : Owned). y .store) e)
 
   -- THE LAWS

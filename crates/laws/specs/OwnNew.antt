@@ -2,7 +2,7 @@
 -- with the buffer of every token out and nothing held.
 use mathlib.Core.Path.{_≡_, refl, sym, ap, ap₂, subst, _∙_}
 use mathlib.Core.Logic.{inl}
-use mathlib.Core.Bool.{Bool, true, not, cond, _&&_, false≢true}
+use mathlib.Core.Bool.{Bool, true, cond, _&&_, false≢true}
 use mathlib.Core.List.{List, [], _∷_}
 use Prim.Native.Nat.{ℕ, zero, suc, _+_, _*_, _≤_, _<_}
 use native.Mathlib.Omega.{arith}
@@ -10,20 +10,20 @@ use borrow.Author.Tests.{ne-eqb, eq-eqb, leb-true, eqb-true, not-false}
 use lib.Dec.{leb, eqb}
 use lib.ListN.{length, replicate}
 use lib.Seq.{sets}
-use Rattle.lists.specs.Pick.{Test, _when_, rising, same}
+use Rattle.lists.specs.Pick.{Test, rising, same}
 use Rattle.lists.specs.PickLaws.{first-none, NoneOf}
 use Rattle.lists.specs.Tests.{by-eq, and-left, and-right}
 use Rattle.virtio.specs.declared.Buffer.{Buffer}
 use Rattle.virtio.specs.Memory.{Memory}
 use Rattle.rules.specs.declared.Open.the-variants.{Idle}
 use Rattle.rules.specs.declared.Held.the-variants.{Nothing}
-use Rattle.rules.specs.Record.{Queue, nextOf, freeCount, freeList, buffersOf, isOpen}
-use Rattle.rules.specs.WellFormed.{baseOk, wellFormed}
+use Rattle.rules.specs.Record.{Queue, nextOf, freeCount, freeList, buffersOf}
+use Rattle.rules.specs.WellFormed.{baseOk}
 use Rattle.rules.specs.Meaning.{Out, Based}
-use Rattle.rules.specs.Answer.{Outcome, InvalidParam, Busy, BadRecord, BadRegion}
+use Rattle.rules.specs.Answer.{Outcome}
 use Rattle.rules.specs.Calls.{fits, addRefusal, add}
 use Rattle.rules.specs.New.{lends}
-use Rattle.rules.specs.Owning.{Owning, no-view, Owned, ownBuffer, sizeAllowed, ownNewRefusal, addOwn, ownMade, ownNotMade, ownNew}
+use Rattle.rules.specs.Owning.{Owning, no-view, Owned, ownBuffer, ownNewTests, ownNewRefusal, addOwn, ownMade, ownNotMade, ownNew}
 use Rattle.laws.specs.WellFormedIs.{based-means}
 use Rattle.laws.specs.CallKeeps.{Good, none-open}
 use Rattle.laws.specs.OwnIs.{Away, OwnWell, OwnGood, means-own}
@@ -121,12 +121,7 @@ module _ (q : Queue) (base size : ℕ) (m : Memory) (s : List ℕ) where
   refusal = ownNewRefusal q base size m s
 
   abbrev tests : List Test
-  tests =
-      (BadRecord when not (wellFormed q))
-      ∷ (BadRegion when not (fits q m && lends base (q .n * size) (length s)))
-      ∷ (Busy when isOpen (q .call))
-      ∷ (InvalidParam when not (sizeAllowed size && same (freeList q) (rising (q .n) 0)))
-      ∷ []
+  tests = ownNewTests q size (fits q m && lends base (q .n * size) (length s))
 
   -- THE LAWS: a new that is refused gives the refusal's number, value 0, an owning record that is all zero but its queue, and alters nothing
   pub new-refused : (ownNewRefusal q base size m s ≡ 0 → ⊥) → ownNew q base size m s ≡ record {
@@ -141,7 +136,7 @@ module _ (q : Queue) (base size : ℕ) (m : Memory) (s : List ℕ) where
   new-refused d = ap (λ b. cond b (ownMade q base size m s) (ownNotMade refusal q m s)) (ne-eqb refusal 0 d)
 
   -- one that is not does what new does, and answers 0; so it is refused exactly where it answers another number
-  new-goes : ownNewRefusal q base size m s ≡ 0 → ownNew q base size m s ≡ ownMade q base size m s
+  pub new-goes : ownNewRefusal q base size m s ≡ 0 → ownNew q base size m s ≡ ownMade q base size m s
   unfolding ownNew
   new-goes e = ap (λ b. cond b (ownMade q base size m s) (ownNotMade refusal q m s)) (eq-eqb refusal 0 e)
 

@@ -187,7 +187,7 @@ module _ (o : Owning) (m : Memory) (s : List ℕ) (e : pollRefusal o m s ≡ 0) 
       ∙ ap (λ b. cond b (ownRefused o 0 m s) (pollToken o (pollNamed o m) m s)) (eq-eqb (usedIdx (o .queue) m) (o .queue .counts .last) i)
 
   module _ (d : usedIdx (o .queue) m ≡ o .queue .counts .last → ⊥) where
-    poll-named : poll o m s ≡ pollToken o (pollNamed o m) m s
+    pub poll-named : poll o m s ≡ pollToken o (pollNamed o m) m s
     poll-named =
         poll-goes o m s e
         ∙ ap (λ b. cond b (ownRefused o 0 m s) (pollToken o (pollNamed o m) m s)) (ne-eqb (usedIdx (o .queue) m) (o .queue .counts .last) d)
@@ -233,11 +233,11 @@ module _ (o : Owning) (m : Memory) (s : List ℕ) (e : pollRefusal o m s ≡ 0) 
       stored-one = ap₂ (λ c k. cond c 0 k) (away-plain o w t away) (away-one o w t away)
 
       -- so it takes the buffer out
-      abbrev taken : Outcome
+      abbrev pub taken : Outcome
       taken =
-          record { answer = 0; value = pollLen o m; steps = 3 + storeSteps q 1; queue = takenOut o m; memory = takenMemory o m }
+          record { answer = 0; value = pollLen o m; steps = 3 + storeSteps (o .queue) 1; queue = takenOut o m; memory = takenMemory o m }
 
-      popped : popUsed q m t (ownList o t) ≡ taken
+      pub popped : popUsed (o .queue) m (pollNamed o m) (ownList o (pollNamed o m)) ≡ taken
       popped =
           pop-passes q m t (ownList o t) call-goes (g .good) d checked
           ∙ ap (λ k. popFreed q m t (ownList o t) (3 + storeSteps q k) (popStored (freed q t) k m)) stored-one

@@ -1,28 +1,28 @@
--- What is shown: the view of a poll lies inside its own token's buffer, whatever record, memory and store the poll is given; and no other call
--- has a view.
+-- What is shown: the view of a poll lies inside its own token's buffer, whatever record, memory and store the poll is given; no other call has a
+-- view; and what is viewed of any record and store are bytes of the held buffer, or none.
 use mathlib.Core.Path.{_≡_, refl, sym, ap, _∙_}
-use mathlib.Core.Bool.{Bool, true, false, not, cond}
-use mathlib.Core.List.{List, [], _∷_}
+use mathlib.Core.Logic.{_⊎_, inl, inr}
+use mathlib.Core.Bool.{Bool, true, false, cond, _&&_}
+use mathlib.Core.List.{List, []}
 use Prim.Native.Nat.{ℕ, _+_, _*_, _%_, _≤_, _<_}
 use native.Mathlib.Omega.{arith}
 use borrow.Author.Tests.{le-leb, leb-true, ltb-true, eqb-true, not-false}
 use lib.Dec.{ltb, leb, eqb}
-use lib.ListN.{length, getD, drop, length-take, length-drop}
+use lib.ListN.{length, getD, take, drop, length-take, length-drop}
 use lib.Seq.{getD-take, getD-drop}
-use Rattle.lists.specs.Pick.{Test, _when_}
 use Rattle.lists.specs.PickLaws.{first-none}
-use Rattle.lists.specs.Tests.{and-left, and-right, and-both}
+use Rattle.lists.specs.Tests.{by-test, and-left, and-right, and-both}
 use Rattle.virtio.specs.Memory.{Memory, used-idx, used-id, spot, loadAt}
 use Rattle.rules.specs.declared.Held.{Held}
 use Rattle.rules.specs.declared.Held.the-variants.{Nothing, Holds}
 use Rattle.rules.specs.Record.{Queue}
-use Rattle.rules.specs.Answer.{Outcome, NotOutstanding, Busy, BadRecord, BadRegion}
+use Rattle.rules.specs.Answer.{Outcome}
 use Rattle.rules.specs.Step.{tokenOf}
 use Rattle.rules.specs.Calls.{fits, popUsed}
 use Rattle.rules.specs.Owning.{Owning, no-view, part, shown, Owned, ownList, holdsNone, ownWellFormed, ownNewRefusal, ownNew}
-use Rattle.rules.specs.Owning.{ownFits, pollRefusal, releaseRefusal, showing}
-use Rattle.rules.specs.Owning.{pollPopped, pollToken, pollReady, poll, released, release, ownShouldNotify, ownSetDevNotify}
-use Rattle.laws.specs.OwnIs.{slot-ends}
+use Rattle.rules.specs.Owning.{storeFits, ownFits, pollTests, pollRefusal, releaseTests, releaseRefusal, showing}
+use Rattle.rules.specs.Owning.{pollPopped, pollToken, pollReady, poll, released, release, ownShouldNotify, ownSetDevNotify, heldPart, ownView}
+use Rattle.laws.specs.OwnIs.{InHand, own-means, slot-ends}
 
 -- ---- what is so of a poll and of a release that nothing refuses
 
@@ -44,18 +44,14 @@ nothing-held (Holds t l) e = absurd (let z : _≡_ {A = ℕ} 0 1 = ap (λ b. con
 
 module _ (o : Owning) (m : Memory) (s : List ℕ) where
   fit-of : ownFits o m s ≡ true → fits (o .queue) m ≡ true
-  fit-of e = and-left (fits (o .queue) m) (leb (o .queue .n * o .size) (length s)) e
+  fit-of e = and-left (fits (o .queue) m) (storeFits o s) e
 
   room-of : ownFits o m s ≡ true → o .queue .n * o .size ≤ length s
-  room-of e = leb-true (o .queue .n * o .size) (length s) (and-right (fits (o .queue) m) (leb (o .queue .n * o .size) (length s)) e)
-
-  -- the tests of both, up to the one that is its own
-  abbrev testsTo : Test → List Test
-  testsTo t = (BadRecord when not (ownWellFormed o)) ∷ (BadRegion when not (ownFits o m s)) ∷ t ∷ []
+  room-of e = leb-true (o .queue .n * o .size) (length s) (and-right (fits (o .queue) m) (storeFits o s) e)
 
   pub poll-allowed : pollRefusal o m s ≡ 0 → PollAllowed o m s
   poll-allowed e =
-      let t = first-none (testsTo (Busy when not (holdsNone (o .held)))) (omega arith) e in
+      let t = first-none (pollTests o (ownFits o m s)) (omega arith) e in
       let f : ownFits o m s ≡ true = not-false (ownFits o m s) (t .1 .0) in
       record {
         well = not-false (ownWellFormed o) (t .0);
@@ -66,7 +62,7 @@ module _ (o : Owning) (m : Memory) (s : List ℕ) where
 
   pub release-allowed : releaseRefusal o m s ≡ 0 → ReleaseAllowed o m s
   release-allowed e =
-      let t = first-none (testsTo (NotOutstanding when holdsNone (o .held))) (omega arith) e in
+      let t = first-none (releaseTests o (ownFits o m s)) (omega arith) e in
       let f : ownFits o m s ≡ true = not-false (ownFits o m s) (t .1 .0) in
       record { well = not-false (ownWellFormed o) (t .0); fit = fit-of f; room = room-of f; some = t .1 .1 .0 }
 
@@ -74,7 +70,7 @@ module _ (o : Owning) (m : Memory) (s : List ℕ) where
 module _ (o : Owning) (m : Memory) (s : List ℕ) where
   fits-if : fits (o .queue) m ≡ true → o .queue .n * o .size ≤ length s → ownFits o m s ≡ true
   fits-if f r =
-      and-both (fits (o .queue) m) (leb (o .queue .n * o .size) (length s)) f (le-leb (o .queue .n * o .size) (length s) r)
+      and-both (fits (o .queue) m) (storeFits o s) f (le-leb (o .queue .n * o .size) (length s) r)
 
   pub allowed-poll : PollAllowed o m s → pollRefusal o m s ≡ 0
   allowed-poll a = rw (a .well, fits-if (a .fit) (a .room), a .none)
@@ -90,12 +86,13 @@ blind false x y f g = g
 -- ---- the view of a poll
 
 -- the answer r shows count bytes from an offset on: they lie inside the buffer of one token, which is the value answered, and which the caller
--- now holds with so many bytes; that buffer lies inside the store, and the store is as it was
-pub record Shows (o : Owning) (s : List ℕ) (r : Owned) (from count : ℕ) : Type 0 where
+-- now holds with so many bytes; all buffers, and so that one, lie inside the store, and the store is as it was
+pub record InBuffer (o : Owning) (s : List ℕ) (r : Owned) (from count : ℕ) : Type 0 where
   pub token : ℕ
   pub below : token < o .queue .n
   pub starts : from ≡ token * o .size
   pub most : count ≤ o .size
+  pub room : o .queue .n * o .size ≤ length s
   pub buffer : token * o .size + o .size ≤ length s
   pub inside : from + count ≤ length s
   pub answer : r .answer ≡ 0
@@ -106,7 +103,7 @@ pub record Shows (o : Owning) (s : List ℕ) (r : Owned) (from count : ℕ) : Ty
 module _ (o : Owning) (m : Memory) (s : List ℕ) where
   -- r has no view, or a view as it should be
   abbrev Viewed : Owned → Type 0
-  Viewed r = (from count : ℕ) → r .view ≡ part from count → Shows o s r from count
+  Viewed r = (from count : ℕ) → r .view ≡ part from count → InBuffer o s r from count
 
   unseen : (r : Owned) → r .view ≡ no-view → Viewed r
   unseen r e from count f = absurd (let z : _≡_ {A = ℕ} 0 1 = cc in omega arith)
@@ -121,6 +118,7 @@ module _ (o : Owning) (m : Memory) (s : List ℕ) where
         below = b;
         starts = sym x;
         most = omega arith;
+        room = room;
         buffer = omega arith;
         inside = omega arith;
         answer = refl;
@@ -135,7 +133,9 @@ module _ (o : Owning) (m : Memory) (s : List ℕ) where
 
   popped-viewed : (p : Outcome) (t : ℕ) → t < o .queue .n → o .queue .n * o .size ≤ length s → Viewed (pollPopped o p t s)
   popped-viewed p t b room =
-      by-cond (leb (p .value) (o .size)) _ _ (λ e. seen p t b (leb-true (p .value) (o .size) e) room) (λ e. unseen _ refl)
+      by-cond (eqb (p .answer) 0) _ _
+      (λ a. by-cond (leb (p .value) (o .size)) _ _ (λ e. seen p t b (leb-true (p .value) (o .size) e) room) (λ e. unseen _ refl))
+      (λ a. unseen _ refl)
 
   token-viewed : (t : ℕ) → o .queue .n * o .size ≤ length s → Viewed (pollToken o t m s)
   token-viewed t room =
@@ -150,7 +150,7 @@ module _ (o : Owning) (m : Memory) (s : List ℕ) where
       (λ e. token-viewed (tokenOf (loadAt (spot (o .queue .modes .legacy) (o .queue .n) (used-id (o .queue .counts .last % o .queue .n))) m)) room)
 
   -- THE LAW: a view that a poll hands back lies inside its own token's buffer
-  pub view-inside : (from count : ℕ) → poll o m s .view ≡ part from count → Shows o s (poll o m s) from count
+  pub view-inside : (from count : ℕ) → poll o m s .view ≡ part from count → InBuffer o s (poll o m s) from count
   unfolding poll
   view-inside =
       by-cond (eqb (pollRefusal o m s) 0) _ _
@@ -167,7 +167,7 @@ module _ (o : Owning) (m : Memory) (s : List ℕ) where
   pub view-bytes : (from count : ℕ) → poll o m s .view ≡ part from count → (i : ℕ) → i < count
       → getD (shown (part from count) s) i 0 ≡ getD s (poll o m s .value * o .size + i) 0
   view-bytes from count e i l =
-      let v : Shows o s (poll o m s) from count = view-inside from count e in
+      let v : InBuffer o s (poll o m s) from count = view-inside from count e in
       getD-take count (drop from s) i 0 l
       ∙ getD-drop from s i 0
       ∙ ap (λ k. getD s (k + i) 0) (v .starts ∙ ap (λ k. k * o .size) (sym (v .value)))
@@ -193,3 +193,54 @@ module _ (o : Owning) (m : Memory) (s : List ℕ) where
 pub new-no-view : (q : Queue) (base size : ℕ) (m : Memory) (s : List ℕ) → ownNew q base size m s .view ≡ no-view
 unfolding ownNew
 new-no-view q base size m s = blind (eqb (ownNewRefusal q base size m s) 0) _ _ refl refl
+
+-- ---- what is viewed, of any record and any store
+
+-- the caller holds a token of the queue's, with no more bytes than its buffer has; that buffer lies inside the store, and its first bytes are viewed
+pub record Views (o : Owning) (s : List ℕ) : Type 0 where
+  pub token : ℕ
+  pub len : ℕ
+  pub held : o .held ≡ Holds token len
+  pub below : token < o .queue .n
+  pub most : len ≤ o .size
+  pub buffer : token * o .size + o .size ≤ length s
+  pub bytes : ownView o s ≡ take len (drop (token * o .size) s)
+
+module _ (o : Owning) (s : List ℕ) where
+  abbrev testsPass : Bool
+  testsPass = ownWellFormed o && storeFits o s
+
+  unviewed : testsPass ≡ false → ownView o s ≡ []
+  unfolding ownView
+  unviewed e = rw e
+
+  -- THE LAW: a good record's view is what it holds, where the store does
+  pub held-viewed : ownWellFormed o ≡ true → o .queue .n * o .size ≤ length s → ownView o s ≡ shown (heldPart (o .held) (o .size)) s
+  unfolding ownView
+  held-viewed e l = rw (e, le-leb (o .queue .n * o .size) (length s) l)
+
+  viewed-held : ownWellFormed o ≡ true → o .queue .n * o .size ≤ length s → (x : Held) → o .held ≡ x → (ownView o s ≡ []) ⊎ Views o s
+  viewed-held e l Nothing h = inl (held-viewed e l ∙ ap (λ x. shown (heldPart x (o .size)) s) h)
+  viewed-held e l (Holds t k) h =
+      let i : InHand o t = own-means o e .holding t k h in
+      let b : t < o .queue .n = i .below in
+      let w : i .len ≤ o .size = i .within in
+      let f : o .held ≡ Holds t (i .len) = i .held in
+      let j : k ≡ i .len = cc in
+      let u : t * o .size + o .size ≤ o .queue .n * o .size = slot-ends (o .size) t (o .queue .n) b in
+      inr (record {
+        token = t;
+        len = k;
+        held = h;
+        below = b;
+        most = omega arith;
+        buffer = omega arith;
+        bytes = held-viewed e l ∙ ap (λ x. shown (heldPart x (o .size)) s) h;
+      })
+
+  -- THE LAW
+  pub view-within : (ownView o s ≡ []) ⊎ Views o s
+  view-within =
+      by-test testsPass
+      (λ e. viewed-held (and-left (ownWellFormed o) (storeFits o s) e) (leb-true (o .queue .n * o .size) (length s) (and-right (ownWellFormed o) (storeFits o s) e)) (o .held) refl)
+      (λ e. inl (unviewed e))

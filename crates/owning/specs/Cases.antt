@@ -1,32 +1,37 @@
 -- The owning queue's calls case by case, by what the code's parts answer.
 use mathlib.Core.Path.{_≡_, sym, ap, _∙_}
-use mathlib.Core.Bool.{Bool, true}
-use mathlib.Core.List.{List}
+use mathlib.Core.Bool.{Bool}
+use mathlib.Core.List.{List, []}
 use Prim.Native.Nat.{ℕ, _*_, _≤_, _<_}
 use native.Mathlib.Omega.{arith}
-use borrow.Author.Tests.{eq-eqb, ne-eqb, lt-ltb, le-ltb, le-leb, lt-leb, not-false, eqb-true, eqb-false}
-use lib.Dec.{eqb, leb}
+use borrow.Author.Tests.{eq-eqb, ne-eqb, lt-ltb, le-ltb, le-leb, lt-leb, eqb-true, eqb-false}
+use lib.Dec.{eqb}
 use lib.ListN.{length}
-use Rattle.lists.specs.Tests.{by-test, and-left}
-use Rattle.lists.specs.PickLaws.{first-none}
+use Rattle.lists.specs.Tests.{by-test}
 use Rattle.virtio.specs.Memory.{Memory}
 use Rattle.rules.specs.declared.Held.the-variants.{Nothing, Holds}
 use Rattle.rules.specs.Answer.{Outcome, WrongToken, OverLength, BadRecord}
-use Rattle.rules.specs.Calls.{fits, callRefusal, add, popUsed, peekUsed, shouldNotify, setDevNotify}
-use Rattle.rules.specs.Owning.{Owning, ownList, ownBroken, ownWellFormed, ownFits, pollTests, releaseTests, pollRefusal, releaseRefusal, plainly, ownRefused, showing, pollPopped, pollToken, pollReady, poll, released, release, passed, ownShouldNotify, ownSetDevNotify}
+use Rattle.rules.specs.Calls.{callRefusal, add, popUsed, peekUsed, shouldNotify, setDevNotify}
+use Rattle.rules.specs.Owning.{Owning, ownList, ownBroken, ownWellFormed, pollRefusal, releaseRefusal, plainly, ownRefused, showing, pollPopped, pollToken, pollReady, poll, released, release, passed, ownShouldNotify, ownSetDevNotify, ownView}
+use Rattle.owns.specs.Refused.{own-well}
 use Rattle.laws.specs.Popped.{usedIdx, unaltered, peek-not-ready, peek-answers}
 
 module _ (o : Owning) (m : Memory) (s : List ℕ) where
   -- ---- past a popped buffer
 
   module _ (p : Outcome) (t : ℕ) where
-    pub pop-shows : p .value ≤ o .size → showing o p t s ≡ pollPopped o p t s
-    pop-shows l = sym (rw (le-leb (p .value) (o .size) l))
+    pub pop-no : (p .answer ≡ 0 → ⊥) → passed o p s ≡ pollPopped o p t s
+    pop-no d = sym (rw (ne-eqb (p .answer) 0 d))
 
-    pub pop-again : (a : Outcome) → o .size < p .value → a ≡ add (p .queue) (p .memory) (ownList o t)
-        → plainly o OverLength 0 (a .queue) Nothing (a .memory) s ≡ pollPopped o p t s
-    pop-again a l e =
-        ap (λ (x : Outcome). plainly o OverLength 0 (x .queue) Nothing (x .memory) s) e ∙ sym (rw (lt-leb (p .value) (o .size) l))
+    module _ (z : p .answer ≡ 0) where
+      pub pop-shows : p .value ≤ o .size → showing o p t s ≡ pollPopped o p t s
+      pop-shows l = sym (rw (eq-eqb (p .answer) 0 z, le-leb (p .value) (o .size) l))
+
+      pub pop-again : (a : Outcome) → o .size < p .value → a ≡ add (p .queue) (p .memory) (ownList o t)
+          → plainly o OverLength 0 (a .queue) Nothing (a .memory) s ≡ pollPopped o p t s
+      pop-again a l e =
+          ap (λ (x : Outcome). plainly o OverLength 0 (x .queue) Nothing (x .memory) s) e
+          ∙ sym (rw (eq-eqb (p .answer) 0 z, lt-leb (p .value) (o .size) l))
 
   -- ---- a token
 
@@ -75,19 +80,6 @@ module _ (o : Owning) (m : Memory) (s : List ℕ) where
   release-yes e = sym (rw (eq-eqb (releaseRefusal o m s) 0 e))
 
   -- and what it shows that there is none
-  pub poll-allowed : pollRefusal o m s ≡ 0 → (ownWellFormed o ≡ true) × (ownFits o m s ≡ true)
-  poll-allowed e =
-      let n : _ = first-none (pollTests o (ownFits o m s)) (omega arith) e in
-      (not-false (ownWellFormed o) (n .0), not-false (ownFits o m s) (n .1 .0))
-
-  pub release-allowed : releaseRefusal o m s ≡ 0 → ownWellFormed o ≡ true
-  release-allowed e =
-      let n : _ = first-none (releaseTests o (ownFits o m s)) (omega arith) e in
-      not-false (ownWellFormed o) (n .0)
-
-  pub queue-fits : ownFits o m s ≡ true → fits (o .queue) m ≡ true
-  queue-fits e = and-left (fits (o .queue) m) (leb (o .queue .n * o .size) (length s)) e
-
   -- the held buffer is added again
   pub gives-back : (t l : ℕ) (a : Outcome) → a ≡ add (o .queue) m (ownList o t)
       → plainly o (a .answer) (a .value) (a .queue) Nothing (a .memory) s ≡ released o (Holds t l) m s
@@ -110,3 +102,14 @@ module _ (o : Owning) (m : Memory) (s : List ℕ) where
   pub set-yes : (b : Bool) (p : Outcome) → ownBroken o ≡ 0 → p ≡ setDevNotify (o .queue) m b → passed o p s ≡ ownSetDevNotify o m s b
   unfolding ownSetDevNotify ownWellFormed
   set-yes b p z e = ap (λ x. passed o x s) e ∙ sym (rw (eq-eqb (ownBroken o) 0 z))
+
+-- ---- the view
+
+module _ (o : Owning) (s : List ℕ) where
+  pub view-broken : (ownBroken o ≡ 0 → ⊥) → [] ≡ ownView o s
+  unfolding ownView ownWellFormed
+  view-broken z = sym (rw (ne-eqb (ownBroken o) 0 z))
+
+  pub view-short : ownBroken o ≡ 0 → length s < o .queue .n * o .size → [] ≡ ownView o s
+  unfolding ownView
+  view-short z l = sym (rw (own-well o z, lt-leb (o .queue .n * o .size) (length s) l))

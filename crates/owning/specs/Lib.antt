@@ -1,11 +1,11 @@
 -- The owning queue's struct and answers as the rules' records, and what the proofs of its calls cite.
---   Owned   struct, answers, and the view
+--   Owned   struct and answers, and that an equation of answers is one of structs
 --   Sound   what a well-formed owning record has
 --   Cases   the rules' calls case by case, by what the code's parts answer
 --   Making  new, and its adds one after the other
---   Shown   the view is what poll told
+--   Kept    what the laws say of the struct
 pub mod Owned
 pub mod Sound
 pub mod Cases
 pub mod Making
-pub mod Shown
+pub mod Kept

@@ -2,12 +2,13 @@
 ghost use mathlib.Core.Path.{_≡_};
 ghost use mathlib.Core.Bool.{true};
 ghost use mathlib.Core.List.{List};
-ghost use Prim.Native.Nat.{ℕ};
+ghost use Prim.Native.Nat.{ℕ, _*_, _≤_};
+ghost use lib.ListN.{length};
 ghost use Rattle.lists.specs.Pick.{first};
-ghost use Rattle.rules.specs.Owning.{ownBroken, pollTests, releaseTests, ownNewTests, ownNew, poll as pollIs, release as releaseIs, released, ownWellFormed, ownShouldNotify, ownSetDevNotify};
+ghost use Rattle.rules.specs.Owning.{ownBroken, pollTests, releaseTests, ownNewTests, ownNew, poll as pollIs, release as releaseIs, released, ownWellFormed, ownShouldNotify, ownSetDevNotify, shown, heldPart, ownView};
 ghost use Rattle.access.specs.Accesses.{memory};
 ghost use Rattle.record.specs.Abs.{abs};
-ghost use Rattle.owning.specs.Owned.{ownOf, ownedOf, heldView};
+ghost use Rattle.owning.specs.Owned.{ownOf, ownedOf};
 use crate::Owned;
 use crate::Owning;
 use crate::Shows;
@@ -16,7 +17,6 @@ use crate::give_back;
 use crate::new_fits;
 use crate::not_made;
 use crate::own_fits;
-use crate::part_of;
 use crate::passed;
 use crate::poll_ready;
 use crate::refused;
@@ -235,15 +235,34 @@ impl Owning {
         passed(self, r)
     }
 
-    // The bytes of the held buffer, as many as the device wrote, as a part of the store; none where nothing is held or the store lacks them.
+    // The bytes of the held buffer, as many as the device wrote, as a part of the store; none where nothing is held, the record is broken or the store
+    // is too short.
     pub fn view<'a>(self, store: &'a [u8]) -> &'a [u8]
-        ensures { λ r. ⌜ now r ≡ heldView (self .held) (self .size) (now (store .entry)) ⌝ }
+        ensures { λ r. ⌜ now r ≡ ownView (ownOf self) (now (store .entry)) ⌝ }
+    {
+        if self.broken() != 0 {
+            return &store[..0];
+        }
+        let queue = self.queue;
+        let core = queue.core;
+        if store.len() < (core.n as usize) * (self.size as usize) {
+            return &store[..0];
+        }
+        self.held_part(store)
+    }
+
+    // The same, past these tests.
+    fn held_part<'a>(self, store: &'a [u8]) -> &'a [u8]
+        requires { ⌜ ownWellFormed (ownOf self) ≡ true ⌝ }
+        requires { ⌜ self .queue .core .n * self .size ≤ length (now store) ⌝ }
+        ensures { λ r. ⌜ now r ≡ shown (heldPart (self .held) (self .size)) (now (store .entry)) ⌝ }
     {
         let held = self.held;
         match held {
             Held::Nothing => &store[..0],
             Held::Holds { token, len } => {
-                part_of(store, (token as usize) * (self.size as usize), len as usize)
+                let from = (token as usize) * (self.size as usize);
+                &store[from..from + (len as usize)]
             }
         }
     }

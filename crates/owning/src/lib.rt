@@ -1,11 +1,10 @@
 // The owning queue (document 01, part 4): a queue all of whose buffers lie in one lent store, buffer i under token i. The caller polls for a buffer that
 // the device has filled, looks at its bytes in the store, and releases it. The calls are in calls.rt, on the parts that stand here.
 ghost use mathlib.Core.Path.{_≡_};
-ghost use mathlib.Core.Bool.{true, _&&_, cond};
+ghost use mathlib.Core.Bool.{true, _&&_};
 ghost use mathlib.Core.List.{List, [], _∷_};
 ghost use Prim.Native.Nat.{ℕ, _+_, _*_, _≤_, _<_, _^_};
 ghost use lib.Dec.{leb};
-ghost use lib.ListN.{length, take, drop};
 ghost use Rattle.virtio.specs.Memory.{Memory};
 ghost use Rattle.rules.specs.Calls.{fits as fitsIs, add as addIs, popUsed};
 ghost use Rattle.rules.specs.New.{lends};
@@ -222,11 +221,15 @@ fn add_all(
 
 // ---- poll and release past their refusals
 
-// The popped buffer of token t is held and shown; or, where the device told a length above the size, added again.
+// The popped buffer of token t is held and shown; or, where the device told a length above the size, added again. A pop that was refused, since the
+// device wrote after the look, is answered as it is.
 fn popped(o: Owning, r: Answer, t: u16, one: &mut [u8], two: &[u8], pool: &mut [u8]) -> Owned
     requires { ⌜ o .base + t * o .size < 2 ^ 64 ⌝ }
     ensures { λ s. ⌜ ((store : List ℕ) → ownedOf s (memory (now (one .exit)) (now (two .entry)) (now (pool .exit))) store ≡ pollPopped (ownOf o) (answerOf r (memory (now (one .entry)) (now (two .entry)) (now (pool .entry)))) t store) ⌝ }
 {
+    if r.answer != 0 {
+        return passed(o, r);
+    }
     if r.value <= o.size {
         return showing(o, r, t);
     }
@@ -274,19 +277,4 @@ fn give_back(o: Owning, t: u16, one: &mut [u8], two: &[u8], pool: &mut [u8]) -> 
     let r = add_own(queue, o.base, o.size, t, one, two, pool);
     let after = r.queue;
     plainly(r.answer, r.value, after, o, Held::Nothing)
-}
-
-// ---- the view
-
-// So many bytes of the store, from an offset on, where it has them, else none.
-fn part_of<'a>(store: &'a [u8], from: usize, count: usize) -> &'a [u8]
-    requires { ⌜ from + count < 2 ^ 64 ⌝ }
-    ensures { λ r. ⌜ now r ≡ cond (leb (from + count) (length (now (store .entry)))) (take count (drop from (now (store .entry)))) [] ⌝ }
-{
-    let to = from + count;
-    if to <= store.len() {
-        &store[from..to]
-    } else {
-        &store[..0]
-    }
 }

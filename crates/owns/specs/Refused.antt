@@ -39,7 +39,7 @@ module _ (q : Queue) (size : ℕ) (fit : Bool) where
 -- ---- poll and release
 
 module _ (o : Owning) where
-  own-well : ownBroken o ≡ 0 → ownWellFormed o ≡ true
+  pub own-well : ownBroken o ≡ 0 → ownWellFormed o ≡ true
   unfolding ownWellFormed
   own-well e = eq-eqb (ownBroken o) 0 e
 

@@ -10,8 +10,8 @@ use Rattle.rules.specs.WellFormed.{sizeOk, noEmpty, everyHead, broken, w
 use Rattle.rules.specs.Step.{emptyAll, move}
 use Rattle.rules.specs.Calls.{fill, openAdd, sameList, openPop, openPeek, moves, run, canPop, shouldNotify, setDevNotify, availableDesc}
 use Rattle.rules.specs.New.{nextsFrom, putDescs, new}
-use Rattle.rules.specs.Owning.{ownBroken, ownWellFormed, addOwn, ownNew, poll, release, ownShouldNotify, ownSetDevNotify}
+use Rattle.rules.specs.Owning.{ownBroken, ownWellFormed, addOwn, ownNew, poll, release, ownShouldNotify, ownSetDevNotify, ownView}
 
 unfoldable pub computing : Unit {0}
-unfolding getLE putLE every tally rising same hop walk ending walks mem noDup allBelow onceEach descAt putDesc usedAt needOne needTwo allOutputs inOrder follow noIndirect listOf expand chainAt sizeOk noEmpty everyHead broken wellFormed emptyAll move fill openAdd sameList openPop openPeek moves run canPop shouldNotify setDevNotify availableDesc nextsFrom putDescs new ownBroken ownWellFormed addOwn ownNew poll release ownShouldNotify ownSetDevNotify
+unfolding getLE putLE every tally rising same hop walk ending walks mem noDup allBelow onceEach descAt putDesc usedAt needOne needTwo allOutputs inOrder follow noIndirect listOf expand chainAt sizeOk noEmpty everyHead broken wellFormed emptyAll move fill openAdd sameList openPop openPeek moves run canPop shouldNotify setDevNotify availableDesc nextsFrom putDescs new ownBroken ownWellFormed addOwn ownNew poll release ownShouldNotify ownSetDevNotify ownView
 computing = tt

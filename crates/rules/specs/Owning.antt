@@ -34,6 +34,11 @@ abbrev pub shown : View → List ℕ → List ℕ
 shown no-view s = []
 shown (part from count) s = take count (drop from s)
 
+-- the part that the held bytes are, where a buffer has this size: the first of their token's buffer
+abbrev pub heldPart : Held → ℕ → View
+heldPart Nothing size = no-view
+heldPart (Holds t l) size = part (t * size) l
+
 pub record Owned : Type 0 where
   pub answer : ℕ
   pub value : ℕ
@@ -72,16 +77,21 @@ module _ (o : Owning) where
       && (not (outstanding (o .queue) t)
       && (every (λ h. eqb h t || outstanding (o .queue) h) (o .queue .n) 0 && leb l (o .size)))
 
-  -- the number of the first broken clause: the queue's own are 1 to 10
-  unfoldable pub ownBroken : ℕ
-  ownBroken =
-      cond (wellFormed (o .queue)) (first (
+  -- base and size are allowed
+  abbrev pub placed-clause : Bool
+  placed-clause = baseOk (o .base) (o .queue .n * o .size) && sizeAllowed (o .size)
+
+  abbrev pub ownTests : List Test
+  ownTests =
       (11 when isOpen (o .queue .call))
-      ∷ (12 when not (baseOk (o .base) (o .queue .n * o .size) && sizeAllowed (o .size)))
+      ∷ (12 when not placed-clause)
       ∷ (13 when not own-clause)
       ∷ (14 when not (held-clause (o .held)))
       ∷ []
-      )) (broken (o .queue))
+
+  -- the number of the first broken clause: the queue's own are 1 to 10
+  unfoldable pub ownBroken : ℕ
+  ownBroken = cond (wellFormed (o .queue)) (first ownTests) (broken (o .queue))
 
   unfoldable pub ownWellFormed : Bool
   ownWellFormed = eqb ownBroken 0
@@ -137,9 +147,13 @@ ownNew q base size m s =
 -- ---- poll and release
 
 module _ (o : Owning) where
+  -- the store has room for all buffers
+  abbrev pub storeFits : List ℕ → Bool
+  storeFits s = leb (o .queue .n * o .size) (length s)
+
   -- the regions, the pool if indirect, and the store
   abbrev pub ownFits : Memory → List ℕ → Bool
-  ownFits m s = fits (o .queue) m && leb (o .queue .n * o .size) (length s)
+  ownFits m s = fits (o .queue) m && storeFits s
 
   abbrev pub pollTests : Bool → List Test
   pollTests fit =
@@ -169,7 +183,7 @@ module _ (o : Owning) where
   abbrev pub ownRefused : ℕ → Memory → List ℕ → Owned
   ownRefused number m s = plainly number 0 (o .queue) (o .held) m s
 
-  -- the popped buffer of token t is held and shown, as many bytes as the device reported; or, where that is above the size, added again
+  -- the popped buffer of token t is held and shown, as many bytes as the device reported
   abbrev pub showing : Outcome → ℕ → List ℕ → Owned
   showing p t s = record {
     answer = 0;
@@ -180,10 +194,17 @@ module _ (o : Owning) where
     store = s;
   }
 
+  -- an answer of the queue, as it is
+  abbrev pub passed : Outcome → List ℕ → Owned
+  passed p s = plainly (p .answer) (p .value) (p .queue) (o .held) (p .memory) s
+
+  -- so, or, where the device reported more than the size, added again; a pop that is refused, since the device wrote after the look, is answered as it is
   abbrev pub pollPopped : Outcome → ℕ → List ℕ → Owned
   pollPopped p t s =
       let again : Outcome = add (p .queue) (p .memory) (ownList o t) in
-      cond (leb (p .value) (o .size)) (showing p t s) (plainly OverLength 0 (again .queue) Nothing (again .memory) s)
+      cond (eqb (p .answer) 0)
+      (cond (leb (p .value) (o .size)) (showing p t s) (plainly OverLength 0 (again .queue) Nothing (again .memory) s))
+      (passed p s)
 
   -- the waiting element names token t
   abbrev pub pollToken : ℕ → Memory → List ℕ → Owned
@@ -212,12 +233,14 @@ module _ (o : Owning) where
 
   -- ---- what passes through: a well-formed record's question or order goes to the queue as it is, with no store
 
-  abbrev pub passed : Outcome → List ℕ → Owned
-  passed p s = plainly (p .answer) (p .value) (p .queue) (o .held) (p .memory) s
-
   unfoldable pub ownShouldNotify : Memory → List ℕ → Owned
   ownShouldNotify m s = cond (ownWellFormed o) (passed (shouldNotify (o .queue) m) s) (ownRefused BadRecord m s)
 
   unfoldable pub ownSetDevNotify : Memory → List ℕ → Bool → Owned
   ownSetDevNotify m s wanted =
       cond (ownWellFormed o) (passed (setDevNotify (o .queue) m wanted) s) (ownRefused BadRecord m s)
+
+  -- ---- the view: the held bytes, none where the record is not well formed or the store is too short
+
+  unfoldable pub ownView : List ℕ → List ℕ
+  ownView s = cond (ownWellFormed o && storeFits s) (shown (heldPart (o .held) (o .size)) s) []

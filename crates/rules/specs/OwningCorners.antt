@@ -1,17 +1,18 @@
 -- Corners of the owning queue, tried on 2 buffers of 8 bytes at 4,096: what its calls leave in record and memory, each clause of a well-formed
 -- owning record, broken, and refusals by each of their grounds. One statement for each list.
 use mathlib.Core.Path.{_≡_, refl}
-use mathlib.Core.Bool.{true}
+use mathlib.Core.Bool.{true, false}
 use mathlib.Core.List.{List, [], _∷_, _++_}
 use Prim.Native.Nat.{ℕ}
 use lib.ListN.{replicate, take, drop}
+use Rattle.lists.specs.Pick.{rising}
 use Rattle.virtio.specs.declared.Buffer.{Buffer}
-use Rattle.virtio.specs.Memory.{used-idx, used-id, used-len}
+use Rattle.virtio.specs.Memory.{used-flags, used-idx, used-id, used-len}
 use Rattle.rules.specs.declared.Open.the-variants.{PeekIdx}
 use Rattle.rules.specs.declared.Held.{Held}
 use Rattle.rules.specs.declared.Held.the-variants.{Nothing, Holds}
 use Rattle.rules.specs.Record.{withCall}
-use Rattle.rules.specs.Owning.{Owning, Owned, shown, ownBroken, ownNew}
+use Rattle.rules.specs.Owning.{Owning, Owned, shown, ownBroken, ownNew, pollToken, ownShouldNotify, ownSetDevNotify, ownView}
 use Rattle.rules.specs.Computing.{computing}
 use Rattle.rules.specs.Cases.{Case, agree, State, four, made, left, stores, gives, adding, popping}
 use Rattle.rules.specs.Orders.{polling, releasing, rest, tells}
@@ -142,6 +143,9 @@ pollCorners =
     ∷ record { got = tells (polling (gives 2 5 (rest lined)) lined) ++ stands (polling (gives 2 5 (rest lined)) lined); want = 4 ∷ 0 ∷ 2 ∷ 0 ∷ 0 ∷ [] }
     ∷ record { got = tells (polling (rest lined) lined) ++ stands (polling (rest lined) lined); want = 0 ∷ 0 ∷ 2 ∷ 0 ∷ 0 ∷ [] }
     ∷ record { got = tells (polling (gives 65537 5 (rest lined)) lined); want = 0 ∷ 1 ∷ [] }
+    -- the look told 0, and by the pop the element names 1; or none waits: the pop's number, and nothing altered
+    ∷ record { got = tells (pollToken (lined .owning) 0 (gives 1 5 (rest lined) .memory) []) ++ stands (pollToken (lined .owning) 0 (gives 1 5 (rest lined) .memory) []); want = 4 ∷ 0 ∷ 2 ∷ 0 ∷ 0 ∷ [] }
+    ∷ record { got = tells (pollToken (lined .owning) 0 (lined .memory) []) ++ stands (pollToken (lined .owning) 0 (lined .memory) []); want = 3 ∷ 0 ∷ 2 ∷ 0 ∷ 0 ∷ [] }
     -- 13 by the store
     ∷ record { got = tells (polling (gives 1 5 (rest lined)) (stored 15 lined)); want = 13 ∷ 0 ∷ [] }
     ∷ record { got = tells (releasing (rest held) (stored 15 held)); want = 13 ∷ 0 ∷ [] }
@@ -202,3 +206,58 @@ ownClauses =
 pub own-clauses-hold : agree ownClauses ≡ true
 unfolding computing four agree
 own-clauses-hold = refl
+
+-- ---- the view
+
+-- buffer 0 holds 0 to 7, buffer 1 holds 8 to 15
+abbrev numbered : List ℕ
+numbered = rising 16 0
+
+abbrev views : List ℕ → Owning → List ℕ → Case
+views want o s = record { got = ownView o s; want = want }
+
+abbrev pub viewCorners : List Case
+viewCorners =
+    -- the reported bytes, none, or all of the held buffer
+    views (8 ∷ 9 ∷ 10 ∷ 11 ∷ 12 ∷ []) (held .owning) numbered
+    ∷ views [] (polling (gives 1 0 (rest lined)) lined .owning) numbered
+    ∷ views (rising 8 8) (whole .owning) (rising 20 0)
+    -- nothing held; a store that is too short
+    ∷ views [] (lined .owning) numbered
+    ∷ views [] (held .owning) (rising 15 0)
+    -- forged: both buffers, a token that is out, no such token, more bytes than its size
+    ∷ views [] (owning 4096 8 (Holds 0 16) (rest lined)) numbered
+    ∷ views [] (owning 4096 8 (Holds 0 5) (rest lined)) numbered
+    ∷ views [] (owning 4096 8 (Holds 2 5) (rest held)) (rising 32 0)
+    ∷ views [] (owning 4096 8 (Holds 1 9) (rest held)) (rising 32 0)
+    ∷ []
+
+pub view-corners-hold : agree viewCorners ≡ true
+unfolding computing four agree
+view-corners-hold = refl
+
+-- ---- what passes through
+
+-- a device that asks not to be notified
+abbrev quiet : State
+quiet = stores used-flags 1 (rest lined)
+
+abbrev ordered : Owned
+ordered = ownSetDevNotify (held .owning) (held .memory) [] false
+
+abbrev pub passCorners : List Case
+passCorners =
+    -- the queue's answer, with a buffer held too; no store is needed
+    record { got = tells (ownShouldNotify (lined .owning) (lined .memory) []); want = 0 ∷ 1 ∷ [] }
+    ∷ record { got = tells (ownShouldNotify (lined .owning) (quiet .memory) []); want = 0 ∷ 0 ∷ [] }
+    ∷ record { got = tells ordered ++ stands ordered; want = 0 ∷ 0 ∷ 2 ∷ 1 ∷ 0 ∷ 1 ∷ 5 ∷ [] }
+    ∷ record { got = take 2 (drop 32 (ordered .memory .one)); want = 1 ∷ 0 ∷ [] }
+    -- 12, and no byte is stored
+    ∷ record { got = tells (ownShouldNotify (owning 4096 8 (Holds 0 5) (rest lined)) (lined .memory) []); want = 12 ∷ 0 ∷ [] }
+    ∷ record { got = tells (ownSetDevNotify (owning 4096 8 (Holds 0 5) (rest lined)) (lined .memory) [] false); want = 12 ∷ 0 ∷ [] }
+    ∷ record { got = take 2 (drop 32 (ownSetDevNotify (owning 4096 8 (Holds 0 5) (rest lined)) (lined .memory) [] false .memory .one)); want = 0 ∷ 0 ∷ [] }
+    ∷ []
+
+pub pass-corners-hold : agree passCorners ≡ true
+unfolding computing four agree
+pass-corners-hold = refl

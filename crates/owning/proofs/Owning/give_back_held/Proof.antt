@@ -1,13 +1,12 @@
 -- The answer is `released` of what is held: nothing, or a token, whose buffer is added again.
-use mathlib.Core.Path.{_≡_, sym, ap, subst, _∙_}
+use mathlib.Core.Path.{sym, ap, _∙_}
 use denote.Ref.{now}
 use Prim.Native.Nat.{ℕ}
 use native.Mathlib.Omega.{arith}
 use Rattle.virtio.specs.Memory.{Memory}
 use Rattle.access.specs.Accesses.{memory}
 use Rattle.owning.specs.Owned.{ownOf}
-use mathlib.Core.Bool.{true}
-use Rattle.rules.specs.Owning.{released, held-clause}
+use Rattle.rules.specs.Owning.{released}
 use Rattle.owning.specs.Sound.{Sound, sound, begins, held-below}
 use borrow.Author.Needs.{needs}
 use Rattle.owning.proofs.Owning.give_back_held.Statement.{statement}
@@ -32,7 +31,7 @@ give-back-requires c κs =
     let w : Sound (ownOf (s .args .self)) = sound (ownOf (s .args .self)) (s .pre) in
     let t : ℕ = c .before .before .before .held .given .0 .0 in
     let l : ℕ = c .before .before .before .held .given .0 .1 .0 in
-    begins (ownOf (s .args .self)) w (omega arith) t (held-below (ownOf (s .args .self)) t l (subst (λ h. held-clause (ownOf (s .args .self)) h ≡ true) (c .before .before .before .held .given .1) (w .held)))
+    begins (ownOf (s .args .self)) w (omega arith) t (held-below (ownOf (s .args .self)) (s .pre) t l (c .before .before .before .held .given .1))
 
 returns : tie.Need-returns
 returns c =

@@ -6,7 +6,8 @@ use Rattle.access.specs.Accesses.{memory}
 use Rattle.owning.specs.Owned.{ownOf}
 use Rattle.lists.specs.Pick.{first}
 use Rattle.rules.specs.Owning.{pollTests, pollRefusal}
-use Rattle.owning.specs.Cases.{poll-no, poll-yes, poll-allowed, queue-fits}
+use Rattle.laws.specs.OwnViews.{PollAllowed, poll-allowed}
+use Rattle.owning.specs.Cases.{poll-no, poll-yes}
 use borrow.Author.Needs.{needs}
 use Rattle.owning.proofs.Owning.poll.Statement.{statement}
 use Rattle.owning.proofs.Owning.poll.Tie as tie
@@ -42,8 +43,8 @@ returns c =
 poll-ready-requires : tie.Need-poll-ready-requires
 poll-ready-requires c κs =
     let s : tie.Start = c .before .before .before .before .before .before .before .before .before .before .before in
-    let a : _ = poll-allowed (ownOf (s .args .self)) (memory-of s) (now (s .args .store)) (goes (c .before .before)) in
-    (a .0, queue-fits (ownOf (s .args .self)) (memory-of s) (now (s .args .store)) (a .1))
+    let a : PollAllowed (ownOf (s .args .self)) (memory-of s) (now (s .args .store)) = poll-allowed (ownOf (s .args .self)) (memory-of s) (now (s .args .store)) (goes (c .before .before)) in
+    (a .well, a .fit)
 
 same-length : tie.Need-same-length
 same-length c = search needs

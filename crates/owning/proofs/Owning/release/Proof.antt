@@ -6,7 +6,8 @@ use Rattle.access.specs.Accesses.{memory}
 use Rattle.owning.specs.Owned.{ownOf}
 use Rattle.lists.specs.Pick.{first}
 use Rattle.rules.specs.Owning.{releaseTests, releaseRefusal}
-use Rattle.owning.specs.Cases.{release-no, release-yes, release-allowed}
+use Rattle.laws.specs.OwnViews.{release-allowed}
+use Rattle.owning.specs.Cases.{release-no, release-yes}
 use borrow.Author.Needs.{needs}
 use Rattle.owning.proofs.Owning.release.Statement.{statement}
 use Rattle.owning.proofs.Owning.release.Tie as tie
@@ -42,7 +43,7 @@ returns c =
 give-back-held-requires : tie.Need-give-back-held-requires
 give-back-held-requires c κs =
     let s : tie.Start = c .before .before .before .before .before .before .before .before .before .before .before in
-    release-allowed (ownOf (s .args .self)) (memory-of s) (now (s .args .store)) (goes (c .before .before))
+    release-allowed (ownOf (s .args .self)) (memory-of s) (now (s .args .store)) (goes (c .before .before)) .well
 
 same-length : tie.Need-same-length
 same-length c = search needs
