@@ -1,5 +1,7 @@
 -- Demand 3, of the code.
---   Named   the calls by name
---   Driven  the methods, called as a mixing's events say, are that mixing
+--   Named      the driver's events by name
+--   Unaltered  those that a trace does not count alter nothing
+--   Driven     a run of the code is a mixing, and DEMAND 3 holds of it
 pub mod Named
+pub mod Unaltered
 pub mod Driven

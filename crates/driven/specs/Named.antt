@@ -1,23 +1,34 @@
--- The calls of the code's enum as those of demand 3.
-use mathlib.Core.Path.{_≡_, sym, ap, _∙_}
+-- The driver's events of demand 3, and those of the code's enum by their names.
 use mathlib.Core.List.{List}
 use Rattle.virtio.specs.declared.Buffer.{Buffer}
 use Rattle.virtio.specs.Memory.{Memory}
 use Rattle.rules.specs.Record.{Queue}
 use Rattle.rules.specs.Answer.{Outcome}
+use Rattle.rules.specs.Calls as rules
 use Rattle.mixing.specs.Mix as mix
-use Rattle.driven.specs.declared.Call.{Call}
-use Rattle.driven.specs.declared.Call.the-variants.{Add, PopUsed, PeekUsed, CanPop, ShouldNotify, AvailableDesc, SetDevNotify}
+use Rattle.driven.specs.declared.Event.{Event}
+use Rattle.driven.specs.declared.Event.the-variants.{Add, PopUsed, PeekUsed, CanPop, ShouldNotify, AvailableDesc, SetDevNotify, Step}
 
-abbrev pub callOf : Call → List Buffer → mix.Call
-callOf Add bs = mix.add bs
-callOf (PopUsed t) bs = mix.pop-used t bs
-callOf PeekUsed bs = mix.peek-used
-callOf CanPop bs = mix.can-pop
-callOf ShouldNotify bs = mix.should-notify
-callOf AvailableDesc bs = mix.available-desc
-callOf (SetDevNotify wanted) bs = mix.set-dev-notify wanted
+-- a call is opened, or made where it is a single step; or the open call makes a step
+pub data Drive : Type 0 where
+  called : mix.Call → Drive
+  stepped : Drive
 
--- the opening of the call that a match found
-pub for-call : (q : Queue) (m : Memory) (bs : List Buffer) {x y : Call} {r : Outcome} → x ≡ y → r ≡ mix.opening (callOf y bs) q m → r ≡ mix.opening (callOf x bs) q m
-for-call q m bs e p = p ∙ ap (λ z. mix.opening (callOf z bs) q m) (sym e)
+abbrev pub eventOf : Drive → mix.Event
+eventOf (called c) = mix.call c
+eventOf stepped = mix.step
+
+-- its outcome by the rules
+abbrev pub ruled : Drive → Queue → Memory → Outcome
+ruled (called c) q m = mix.opening c q m
+ruled stepped q m = rules.step q m
+
+abbrev pub driveOf : Event → List Buffer → Drive
+driveOf Add bs = called (mix.add bs)
+driveOf (PopUsed t) bs = called (mix.pop-used t bs)
+driveOf PeekUsed bs = called mix.peek-used
+driveOf CanPop bs = called mix.can-pop
+driveOf ShouldNotify bs = called mix.should-notify
+driveOf AvailableDesc bs = called mix.available-desc
+driveOf (SetDevNotify wanted) bs = called (mix.set-dev-notify wanted)
+driveOf Step bs = stepped

@@ -1,5 +1,5 @@
-// The driver's events of demand 3, made by the methods of `record`: a call is opened, or made where it is a single step. `specs/Driven.antt` says that
-// these, called one after the other as the events of a mixing say, are that mixing.
+// A queue is taken into use, and the driver's events of demand 3 are made, by the methods of `record`. That these, called one after the other as the events of a
+// mixing say, are that mixing is their contract; `specs/Driven.antt` says what it means.
 ghost use mathlib.Core.Path.{_≡_};
 ghost use Rattle.virtio.specs.Memory.{Memory};
 ghost use Rattle.rules.specs.Calls.{availableDesc};
@@ -7,13 +7,15 @@ ghost use Rattle.access.specs.Accesses.{memory};
 ghost use Rattle.opens.specs.Given.{given};
 ghost use Rattle.record.specs.Abs.{abs};
 ghost use Rattle.record.specs.Asked.{answerOf};
-ghost use Rattle.mixing.specs.Mix.{opening};
-ghost use Rattle.driven.specs.Named.{callOf};
+ghost use Rattle.driven.specs.Named.{driveOf};
+ghost use Rattle.driven.specs.Driven.{MakesEvent, Starts};
 use record::Answer;
+use record::Ask;
+use record::Made;
 use record::Queue;
 
-// A call, by name; the list of an add or a pop comes beside it.
-pub enum Call {
+// An event of the driver: a call, by name, whose list, if it has one, comes beside it; or a step of the open call.
+pub enum Event {
     Add,
     PopUsed { token: u32 },
     PeekUsed,
@@ -21,6 +23,15 @@ pub enum Call {
     ShouldNotify,
     AvailableDesc,
     SetDevNotify { wanted: bool },
+    Step,
+}
+
+// Takes a queue into use.
+pub fn start(ask: Ask, one: &mut [u8], two: &mut [u8], pool: &[u8]) -> Made
+    ensures { λ r. ⌜ Starts ask (memory (now (one .entry)) (now (two .entry)) (now (pool .entry))) r
+        (memory (now (one .exit)) (now (two .exit)) (now (pool .entry))) ⌝ }
+{
+    Queue::new(ask, one, two, pool)
 }
 
 // How many descriptors an add can have, as an answer with its record.
@@ -36,28 +47,29 @@ fn available(q: Queue) -> Answer
     }
 }
 
-// Opens add, pop_used or peek_used; makes the others.
-pub fn open(
-    call: Call,
+// Makes an event: opens add, pop_used or peek_used; makes a call of a single step, or a step of the open call.
+pub fn drive(
+    event: Event,
     q: Queue,
     addrs: &[u64],
     sizes: &[u32],
     outs: &[u8],
     one: &mut [u8],
     two: &[u8],
-    pool: &[u8],
+    pool: &mut [u8],
 ) -> Answer
-    ensures { λ r. ⌜ answerOf r (memory (now (one .exit)) (now (two .entry)) (now (pool .entry)))
-        ≡ opening (callOf call (given (now (addrs .entry)) (now (sizes .entry)) (now (outs .entry)))) (abs q)
-        (memory (now (one .entry)) (now (two .entry)) (now (pool .entry))) ⌝ }
+    ensures { λ r. ⌜ MakesEvent (driveOf event (given (now (addrs .entry)) (now (sizes .entry)) (now (outs .entry)))) q
+        (memory (now (one .entry)) (now (two .entry)) (now (pool .entry))) r
+        (memory (now (one .exit)) (now (two .entry)) (now (pool .exit))) ⌝ }
 {
-    match call {
-        Call::Add => q.open_add(addrs, sizes, outs, one, two, pool),
-        Call::PopUsed { token } => q.open_pop(token, addrs, sizes, outs, one, two, pool),
-        Call::PeekUsed => q.open_peek(one, two, pool),
-        Call::CanPop => q.can_pop(one, two, pool),
-        Call::ShouldNotify => q.should_notify(one, two, pool),
-        Call::AvailableDesc => available(q),
-        Call::SetDevNotify { wanted } => q.set_dev_notify(wanted, one, two, pool),
+    match event {
+        Event::Add => q.open_add(addrs, sizes, outs, one, two, pool),
+        Event::PopUsed { token } => q.open_pop(token, addrs, sizes, outs, one, two, pool),
+        Event::PeekUsed => q.open_peek(one, two, pool),
+        Event::CanPop => q.can_pop(one, two, pool),
+        Event::ShouldNotify => q.should_notify(one, two, pool),
+        Event::AvailableDesc => available(q),
+        Event::SetDevNotify { wanted } => q.set_dev_notify(wanted, one, two, pool),
+        Event::Step => q.step(one, two, pool),
     }
 }

@@ -5,7 +5,8 @@
 --   Demand    THE STATEMENT: a mixing with nothing left open leaves what whole operations in some order leave
 --   Mixings   mixings of a queue of size 2, computed, with the order that explains each
 --   Single    one of a queue of size 1, in the legacy layout
---   Tried     mixings that wrong rules break, with all their orders tried
+--   Tried     five mixings with all their orders tried
+--   WrongRules   five wrong rules, each of which leaves one of these five without an order that explains it
 --   MoreMixings  mixings of a queue of size 4, with event indices, and across the indices' wrap: the proof's own order of each, computed
 -- Its proof:
 --   Turns     THE REDUCTION for sides in general, however many: events that leave an operation open change places with those of other sides
@@ -56,6 +57,7 @@ pub mod Start
 pub mod Proof
 pub mod WholeCalls
 pub mod Tried
+pub mod WrongRules
 pub mod MoreMixings
 pub mod Ends
 pub mod Orders

@@ -1,4 +1,4 @@
--- Mixings of a queue of size 2, computed: where each ends, and the order of whole calls and whole acts that explains it. They try the statement before
+-- Mixings of a queue of size 2, computed: where each ends, and the order of whole calls and whole acts that explains it, that of last events. They try the statement before
 -- it is proved, and show that it is not empty: calls and acts of each kind are open across steps of the other side.
 use mathlib.Core.Path.{_≡_, refl, sym, _∙_}
 use mathlib.Core.Bool.{true, false}
@@ -25,7 +25,7 @@ use Rattle.mixing.specs.Demand.{Whole, whole-call, whole-act, inTurn, st
 abbrev pub direct : Modes
 direct = record { indirect = false; «event_idx» = false; legacy = false }
 
-abbrev lists-events : Modes
+abbrev pub lists-events : Modes
 lists-events = record { indirect = true; «event_idx» = true; legacy = false }
 
 abbrev pub ask : Modes → Ask
@@ -49,14 +49,14 @@ output = record { addr = 8192; len = 20; output = true }
 abbrev pub says : ℕ → ℕ → ℕ → Answer
 says number v steps = record { number = number; value = v; steps = steps }
 
-abbrev link : ℕ → ℕ → ℕ → ℕ → Desc
+abbrev pub link : ℕ → ℕ → ℕ → ℕ → Desc
 link a l f x = record { addr = a; len = l; flags = f; next = x }
 
-abbrev counted : ℕ → ℕ → ℕ → ℕ → Counts
+abbrev pub counted : ℕ → ℕ → ℕ → ℕ → Counts
 counted used free avail last = record { used = used; free = free; avail = avail; last = last }
 
 -- the record with these two descriptors in its shadow table, these lengths noted, and these list entries kept, and no call open
-abbrev rests : Modes → ℕ → Counts → Desc → Desc → ℕ → ℕ → List Buffer → Queue
+abbrev pub rests : Modes → ℕ → Counts → Desc → Desc → ℕ → ℕ → List Buffer → Queue
 rests o base c d₀ d₁ n₀ n₁ bs = record {
   n = 2;
   modes = o;
@@ -66,20 +66,20 @@ rests o base c d₀ d₁ n₀ n₁ bs = record {
   call = Idle;
 }
 
-abbrev idle : ℕ → ℕ → List ℕ → Device
+abbrev pub idle : ℕ → ℕ → List ℕ → Device
 idle taken used holds = record { taken = taken; used = used; holds = holds; doing = resting }
 
 -- ---- between
 
 -- A take that finds nothing while an add is open; a call refused as Busy, left aside; a take across which the driver asks should_notify; a pop that
 -- looks between the stores of a complete; and another that is open when the used flags change.
-abbrev between : List Event
+abbrev pub between : List Event
 between =
     call (add (input ∷ output ∷ [])) ∷ step ∷ act take-next ∷ tick ∷ step ∷ call can-pop ∷ step ∷ step ∷ step ∷ act take-next ∷ tick ∷ call should-notify
     ∷ tick ∷ tick ∷ tick ∷ act (complete 0 20) ∷ tick ∷ call (pop-used 0 (input ∷ output ∷ [])) ∷ step ∷ tick
     ∷ call (pop-used 0 (input ∷ output ∷ [])) ∷ tick ∷ step ∷ step ∷ act (set-used-flags 1) ∷ step ∷ step ∷ step ∷ []
 
-abbrev between-order : List Whole
+abbrev pub between-order : List Whole
 between-order =
     whole-act take-next ∷ whole-call (add (input ∷ output ∷ [])) ∷ whole-call should-notify ∷ whole-act take-next
     ∷ whole-call (pop-used 0 (input ∷ output ∷ [])) ∷ whole-act (complete 0 20) ∷ whole-act (set-used-flags 1)
@@ -115,16 +115,16 @@ between-explained = record { order = between-order; same-trace = between-in-turn
 -- ---- reordered
 
 -- Two chains, completed in the other order: the pop of token 0 finds token 1's element. A peek is open across a complete, and so is a pop.
-abbrev reordered : List Event
+abbrev pub reordered : List Event
 reordered =
     call (add (input ∷ [])) ∷ step ∷ step ∷ step ∷ act take-next ∷ tick ∷ step ∷ call (add (output ∷ [])) ∷ step ∷ step ∷ act take-next ∷ tick ∷ tick ∷ step
     ∷ step ∷ tick ∷ act take-next ∷ tick ∷ tick ∷ tick ∷ act (complete 1 5) ∷ tick ∷ call peek-used ∷ tick ∷ step ∷ tick ∷ call peek-used ∷ step ∷ step
     ∷ act (complete 0 0) ∷ tick ∷ call (pop-used 0 (input ∷ [])) ∷ step ∷ tick ∷ step ∷ step ∷ tick ∷ call (pop-used 1 (output ∷ [])) ∷ step ∷ step
     ∷ step ∷ step ∷ call available-desc ∷ []
 
-abbrev reordered-order : List Whole
+abbrev pub reordered-order : List Whole
 reordered-order =
-    whole-act take-next ∷ whole-call (add (input ∷ [])) ∷ whole-act take-next ∷ whole-call (add (output ∷ [])) ∷ whole-act take-next ∷ whole-call peek-used
+    whole-act take-next ∷ whole-call (add (input ∷ [])) ∷ whole-call (add (output ∷ [])) ∷ whole-act take-next ∷ whole-act take-next ∷ whole-call peek-used
     ∷ whole-act (complete 1 5) ∷ whole-call peek-used ∷ whole-call (pop-used 0 (input ∷ [])) ∷ whole-act (complete 0 0)
     ∷ whole-call (pop-used 1 (output ∷ [])) ∷ whole-call available-desc ∷ []
 
@@ -159,14 +159,14 @@ reordered-explained = record { order = reordered-order; same-trace = reordered-i
 
 -- An indirect list, with event indices: the device reads the list while the driver stores the next chain; it looks at used_event while a pop is open,
 -- and stores avail_event.
-abbrev listed : List Event
+abbrev pub listed : List Event
 listed =
     call (add (input ∷ output ∷ [])) ∷ step ∷ step ∷ act take-next ∷ tick ∷ step ∷ step ∷ step ∷ act take-next ∷ tick ∷ tick ∷ tick ∷ call (add (input ∷ []))
     ∷ step ∷ tick ∷ step ∷ tick ∷ act (set-avail-event 1) ∷ step ∷ step ∷ call should-notify ∷ act (complete 0 7) ∷ tick ∷ tick
     ∷ call (pop-used 0 (input ∷ output ∷ [])) ∷ tick ∷ step ∷ step ∷ act see-used-event ∷ step ∷ act see-used-event ∷ step ∷ act see-used-event
     ∷ call can-pop ∷ []
 
-abbrev listed-order : List Whole
+abbrev pub listed-order : List Whole
 listed-order =
     whole-act take-next ∷ whole-call (add (input ∷ output ∷ [])) ∷ whole-act take-next ∷ whole-act (set-avail-event 1) ∷ whole-call (add (input ∷ []))
     ∷ whole-call should-notify ∷ whole-act (complete 0 7) ∷ whole-act see-used-event ∷ whole-act see-used-event
@@ -203,15 +203,15 @@ listed-explained = record { order = listed-order; same-trace = listed-in-turn �
 
 -- The driver turns notifications off and on, between the device's looks at the flags; a complete of a chain that was not taken is no act; an act while
 -- one is open is not begun.
-abbrev flagged : List Event
+abbrev pub flagged : List Event
 flagged =
     act see-avail-flags ∷ call (set-dev-notify false) ∷ act see-avail-flags ∷ call (add (input ∷ [])) ∷ act (complete 0 1) ∷ step ∷ step ∷ act take-next
     ∷ act see-avail-flags ∷ step ∷ call (set-dev-notify true) ∷ step ∷ tick ∷ call (set-dev-notify true) ∷ tick ∷ tick ∷ act see-avail-flags ∷ []
 
-abbrev flagged-order : List Whole
+abbrev pub flagged-order : List Whole
 flagged-order =
     whole-act see-avail-flags ∷ whole-call (set-dev-notify false) ∷ whole-act see-avail-flags ∷ whole-act (complete 0 1)
-    ∷ whole-call (add (input ∷ [])) ∷ whole-act take-next ∷ whole-call (set-dev-notify true) ∷ whole-act see-avail-flags ∷ []
+    ∷ whole-call (add (input ∷ [])) ∷ whole-call (set-dev-notify true) ∷ whole-act take-next ∷ whole-act see-avail-flags ∷ []
 
 abbrev flagged-end : Trace
 flagged-end = record {

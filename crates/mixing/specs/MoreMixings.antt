@@ -1,11 +1,12 @@
--- Further mixings, computed, each with the order of last events that the proof of demand 3 gives it: that order, and the answers and results of the mixing
--- and of the whole calls and whole acts in that order, are found by computing.
+-- Further mixings, computed, each with the order of last events that the proof of demand 3 gives it: that order, and what the mixing and the whole calls and
+-- whole acts in that order come to, are found by computing; and that the orders of Mixings and Single are those of last events too.
 use mathlib.Core.Path.{_≡_, refl, sym, ap, _∙_}
 use mathlib.Core.Bool.{true, false}
 use mathlib.Core.List.{List, [], _∷_, _++_}
 use Prim.Native.Nat.{ℕ}
 use lib.ListN.{replicate}
 use Rattle.virtio.specs.declared.Buffer.{Buffer}
+use Rattle.virtio.specs.Desc.{noBuffer}
 use Rattle.virtio.specs.Memory.{Memory}
 use Rattle.rules.specs.declared.Modes.{Modes}
 use Rattle.rules.specs.Record.{Queue}
@@ -19,7 +20,36 @@ use Rattle.mixing.specs.Demand.{Whole, whole-call, whole-act, inTurn, st
 use Rattle.mixing.specs.Turns.{turns}
 use Rattle.mixing.specs.Whole.{byLast}
 use Rattle.mixing.specs.Proof.{by-last-events, demand3}
-use Rattle.mixing.specs.Mixings.{direct, ask, lent, input, output, says}
+use Rattle.mixing.specs.Mixings.{direct, lists-events, ask, lent, input, output, says, link, counted, rests, idle}
+use Rattle.mixing.specs.Mixings.{between, between-order, reordered, reordered-order, listed, listed-order, flagged, flagged-order}
+use Rattle.mixing.specs.Single as one
+
+-- ---- the orders of Mixings and Single
+
+abbrev last-order : Ask → Memory → List Event → List Whole
+last-order a m es = byLast (wiring a) es (start (new a m))
+
+pub between-order-is : last-order (ask direct) lent between ≡ between-order
+unfolding computing event trace without turns
+between-order-is = refl
+
+pub reordered-order-is : last-order (ask direct) lent reordered ≡ reordered-order
+unfolding computing event trace without turns
+reordered-order-is = refl
+
+pub listed-order-is : last-order (ask lists-events) lent listed ≡ listed-order
+unfolding computing event trace without turns
+listed-order-is = refl
+
+pub flagged-order-is : last-order (ask direct) lent flagged ≡ flagged-order
+unfolding computing event trace without turns
+flagged-order-is = refl
+
+pub single-order-is : last-order one.ask one.lent one.single ≡ one.single-order
+unfolding computing event trace without turns
+single-order-is = refl
+
+-- ---- what is computed of a further one
 
 -- answers and results that a trace tells
 pub record Tells (t : Trace) (answers : List Answer) (results : List Result) : Type 0 where
@@ -154,18 +184,39 @@ wrapping-order =
     ∷ whole-call (set-dev-notify false) ∷ whole-act take-next ∷ whole-act see-avail-flags ∷ whole-call (pop-used 0 (input ∷ output ∷ []))
     ∷ whole-act (complete 0 3) ∷ whole-act see-used-event ∷ whole-call (pop-used 0 (input ∷ output ∷ [])) ∷ whole-act see-used-event ∷ []
 
-abbrev pub wrapping-answers : List Answer
-wrapping-answers = says 0 0 5 ∷ says 0 0 1 ∷ says 0 1 1 ∷ says 0 0 0 ∷ says 3 0 1 ∷ says 0 3 6 ∷ []
-
-abbrev pub wrapping-results : List Result
-wrapping-results =
-    none-available ∷ stored ∷ took 0 (input ∷ output ∷ []) ∷ saw 0 ∷ completed ∷ saw 65535 ∷ saw 0 ∷ []
-
-pub wrapping-computed : Computed (wiring (ask events)) late wrapping wrapping-order wrapping-answers wrapping-results
-unfolding computing event trace without turns
-wrapping-computed = record {
-  ended = record { no-call = refl; no-act = refl };
-  order-is = refl;
-  mixed = record { answered = refl; came = refl };
-  in-turn = record { answered = refl; came = refl };
+abbrev pub wrapping-end : Trace
+wrapping-end = record {
+  queue = rests events 0 (counted 0 0 0 0) (link 0 0 1 1) (link 0 0 2 0) 0 0 (noBuffer ∷ noBuffer ∷ noBuffer ∷ noBuffer ∷ []);
+  memory = record {
+    one = replicate 12 0 ++ (1 ∷ 0 ∷ 1 ∷ replicate 13 0 ++ (2 ∷ replicate 13 0));
+    two = replicate 16 0 ++ (3 ∷ 0 ∷ 0 ∷ 0 ∷ 255 ∷ 255 ∷ []);
+    pool = [];
+  };
+  device = idle 0 0 [];
+  made = 6;
+  calls =
+      add (input ∷ output ∷ []) ∷ should-notify ∷ should-notify ∷ set-dev-notify false ∷ pop-used 0 (input ∷ output ∷ [])
+      ∷ pop-used 0 (input ∷ output ∷ []) ∷ [];
+  answers = says 0 0 5 ∷ says 0 0 1 ∷ says 0 1 1 ∷ says 0 0 0 ∷ says 3 0 1 ∷ says 0 3 6 ∷ [];
+  acts = take-next ∷ set-avail-event 65535 ∷ take-next ∷ see-avail-flags ∷ complete 0 3 ∷ see-used-event ∷ see-used-event ∷ [];
+  results = none-available ∷ stored ∷ took 0 (input ∷ output ∷ []) ∷ saw 0 ∷ completed ∷ saw 65535 ∷ saw 0 ∷ [];
 }
+
+abbrev from-late : List Event → Trace
+from-late es = trace (wiring (ask events)) es late
+
+wrapping-mixed : from-late wrapping ≡ wrapping-end
+unfolding computing event trace without
+wrapping-mixed = refl
+
+wrapping-in-turn : from-late (inTurn 2 wrapping-order) ≡ wrapping-end
+unfolding computing event trace without
+wrapping-in-turn = refl
+
+-- the theorem speaks of fresh queues, so that here the whole trace is computed
+pub wrapping-computed : from-late (inTurn 2 wrapping-order) ≡ from-late wrapping
+wrapping-computed = wrapping-in-turn ∙ sym wrapping-mixed
+
+pub wrapping-order-is : byLast (wiring (ask events)) wrapping late ≡ wrapping-order
+unfolding computing event trace without turns
+wrapping-order-is = refl

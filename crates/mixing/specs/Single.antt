@@ -14,7 +14,7 @@ use Rattle.mixing.specs.Device.{take-next, complete, see-used-event, non
 use Rattle.mixing.specs.Mix.{add, pop-used, Event, call, step, act, tick, Trace, event, trace}
 use Rattle.mixing.specs.Demand.{Whole, whole-call, whole-act, inTurn, start, wiring, Explained}
 
-abbrev ask : Ask
+abbrev pub ask : Ask
 ask = record {
   n = 1;
   in-use = false;
@@ -25,19 +25,19 @@ ask = record {
   base-pool = 0;
 }
 
-abbrev lent : Memory
+abbrev pub lent : Memory
 lent = record { one = replicate 8192 0; two = []; pool = [] }
 
 abbrev buffer : Buffer
 buffer = record { addr = 4096; len = 10; output = true }
 
-abbrev single : List Event
+abbrev pub single : List Event
 single =
     call (add (buffer ∷ [])) ∷ step ∷ step ∷ act take-next ∷ step ∷ tick ∷ step ∷ act take-next ∷ tick ∷ tick ∷ call (pop-used 0 (buffer ∷ [])) ∷ step ∷ tick
     ∷ act (complete 0 3) ∷ tick ∷ tick ∷ tick ∷ call (pop-used 0 (buffer ∷ [])) ∷ step ∷ step ∷ act see-used-event ∷ step ∷ act take-next ∷ step ∷ step
     ∷ call (add (buffer ∷ [])) ∷ step ∷ step ∷ tick ∷ act see-used-event ∷ step ∷ act take-next ∷ step ∷ tick ∷ tick ∷ tick ∷ []
 
-abbrev single-order : List Whole
+abbrev pub single-order : List Whole
 single-order =
     whole-act take-next ∷ whole-call (add (buffer ∷ [])) ∷ whole-call (pop-used 0 (buffer ∷ [])) ∷ whole-act take-next ∷ whole-act (complete 0 3) ∷ whole-act see-used-event
     ∷ whole-call (pop-used 0 (buffer ∷ [])) ∷ whole-act take-next ∷ whole-act see-used-event ∷ whole-call (add (buffer ∷ [])) ∷ whole-act take-next ∷ []
