@@ -10,12 +10,12 @@ use mir.Val.{Val, WT, hasTy}
 use base.Fml.{Lft, Fml}
 use prog.Wp.{Heap}
 use ghost.Atoms.{Atoms}
-use types.Kit.{Given}
+use types.Kit.{Given, Item, Goal, Step, step, ‵, _⊛_, _$_, use1, split}
 use denote.Laws.{Is, Makes}
 use denote.Builtin.{u8}
 use denote.RattleType.{RattleType}
 use denote.Ref.{RefT}
-use denote.Slice.{sliceVal, ShrSlice, MutSlice}
+use denote.Slice.{sliceVal, ShrSlice, MutSlice, shr-slice-copy}
 use denote.Struct.Laws as LL
 use Rattle.virtio.specs.declared.Buffer.{Buffer}
 use Rattle.record.specs.declared.Queue.{Queue}
@@ -85,3 +85,8 @@ module _ {M : Type 1} (𝓤 : URA M) (H : Heap 𝓤) (A : Atoms 𝓤) (W : Given
 
   pub copy-makes : Makes 𝓤 H A B.the-row (Is B.the-row)
   copy-makes = LL.makes B.the-type B′.the-plain 𝓤 H A
+
+-- a region that is lent for reading is had twice, so that it can be lent on
+module _ {M : Type 1} {𝓤 : URA M} {H : Heap 𝓤} {A : Atoms 𝓤} {K : Type 0} {W : Given 𝓤 H A} {Γ : List (Item 𝓤)} {G : Goal 𝓤 H} where
+  pub doubled : K → (j : ℕ) (κ : Lft) (s : RefT (List ℕ)) → Step K W (‵ (own-read j κ s) ∷ ‵ (own-read j κ s) ∷ Γ) G (‵ (own-read j κ s) ∷ Γ) G
+  doubled t j κ s = step (λ k. use1 W (‵ (own-read j κ s) ⊛ ‵ (own-read j κ s)) (shr-slice-copy 𝓤 H A W (named j) κ u8 .twice s (slice-val s ∷ [])) $ split t $ k)

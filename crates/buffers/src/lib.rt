@@ -1,6 +1,6 @@
 // The queue's calls over a list of buffers lent as a slice of structs. Each entry copies the list into number arrays and makes the call of crate record;
 // its proof is by hand, since a slice of structs is outside what the prover walks by itself.
-// No queue has more than 64 descriptors, so a list of 65 is as good as any longer one, if it tells what a call asks of that: whether it is in order.
+// A list of more than 64 buffers fits no queue, and of such a list a call asks only whether it is in order. So 65 buffers can stand for it.
 ghost use mathlib.Core.Path.{_≡_};
 ghost use mathlib.Core.Bool.{not, _||_, _&&_};
 ghost use Rattle.lists.specs.Pick.{one-if};

@@ -2,7 +2,8 @@
 // few stores of this program. It prints what each call answered.
 ghost use mathlib.Core.Path.{_≡_};
 ghost use mathlib.Core.List.{[], _∷_};
-ghost use Rattle.rules.specs.Calls.{add as addIs, popUsed};
+ghost use lib.ListN.{replicate};
+ghost use Rattle.rules.specs.Calls.{openAdd, openPop, add as addIs, popUsed};
 ghost use Rattle.access.specs.Accesses.{memory};
 ghost use Rattle.record.specs.Abs.{abs};
 ghost use Rattle.record.specs.Asked.{answerOf};
@@ -13,37 +14,57 @@ use record::Queue;
 use rules::Modes;
 use virtio::Buffer;
 
-// By hand, as every function that makes a slice of structs: a request is its header, its block and its status.
-fn send(
-    queue: Queue,
+// A read of one block: what is asked, where the block goes, and where the device says how it went.
+struct Request {
     header: Buffer,
     block: Buffer,
     status: Buffer,
-    one: &mut [u8],
-    two: &[u8],
-    pool: &mut [u8],
-) -> Answer
-    ensures { λ r. ⌜ answerOf r (memory (now (one .exit)) (now (two .entry)) (now (pool .exit))) ≡ addIs (abs queue) (memory (now (one .entry)) (now (two .entry)) (now (pool .entry))) (header ∷ block ∷ status ∷ []) ⌝ }
+}
+
+// Adds the request's buffers. The proof is by hand, as of every function that makes a slice of structs.
+fn send(queue: Queue, request: Request, one: &mut [u8], two: &[u8], pool: &mut [u8]) -> Answer
+    ensures { λ r. ⌜ answerOf r (memory (now (one .exit)) (now (two .entry)) (now (pool .exit))) ≡ addIs (abs queue) (memory (now (one .entry)) (now (two .entry)) (now (pool .entry))) (request .header ∷ request .block ∷ request .status ∷ []) ⌝ }
 {
-    let list = [header, block, status];
+    let list = [request.header, request.block, request.status];
     buffers::add(queue, &list, one, two, pool)
 }
 
-// By hand, too.
+// Pops the request's buffers, which must be those that were added. The proof is by hand.
 fn receive(
     queue: Queue,
     token: u32,
-    header: Buffer,
-    block: Buffer,
-    status: Buffer,
+    request: Request,
     one: &mut [u8],
     two: &[u8],
     pool: &mut [u8],
 ) -> Answer
-    ensures { λ r. ⌜ answerOf r (memory (now (one .exit)) (now (two .entry)) (now (pool .exit))) ≡ popUsed (abs queue) (memory (now (one .entry)) (now (two .entry)) (now (pool .entry))) token (header ∷ block ∷ status ∷ []) ⌝ }
+    ensures { λ r. ⌜ answerOf r (memory (now (one .exit)) (now (two .entry)) (now (pool .exit))) ≡ popUsed (abs queue) (memory (now (one .entry)) (now (two .entry)) (now (pool .entry))) token (request .header ∷ request .block ∷ request .status ∷ []) ⌝ }
 {
-    let list = [header, block, status];
+    let list = [request.header, request.block, request.status];
     buffers::pop_used(queue, token, &list, one, two, pool)
+}
+
+// Opens an add of the same buffer 66 times over, more than any queue takes. The proof is by hand.
+fn open_add_many(queue: Queue, block: Buffer, one: &[u8], two: &[u8], pool: &[u8]) -> Answer
+    ensures { λ r. ⌜ answerOf r (memory (now (one .entry)) (now (two .entry)) (now (pool .entry))) ≡ openAdd (abs queue) (memory (now (one .entry)) (now (two .entry)) (now (pool .entry))) (replicate 66 block) ⌝ }
+{
+    let list = [block; 66];
+    buffers::open_add(queue, &list, one, two, pool)
+}
+
+// Opens a pop with such a list. The proof is by hand.
+fn open_pop_many(
+    queue: Queue,
+    token: u32,
+    block: Buffer,
+    one: &[u8],
+    two: &[u8],
+    pool: &[u8],
+) -> Answer
+    ensures { λ r. ⌜ answerOf r (memory (now (one .entry)) (now (two .entry)) (now (pool .entry))) ≡ openPop (abs queue) (memory (now (one .entry)) (now (two .entry)) (now (pool .entry))) token (replicate 66 block) ⌝ }
+{
+    let list = [block; 66];
+    buffers::open_pop(queue, token, &list, one, two, pool)
 }
 
 fn word(text: &[u8], value: u64) {
@@ -51,7 +72,7 @@ fn word(text: &[u8], value: u64) {
     io::print_decimal(1, value);
 }
 
-// What a call answered, and how many descriptors are then free.
+// What a call answered, and how many descriptors are then free, unless a call is open.
 fn report(name: &[u8], r: Answer) {
     io::write_all(1, name);
     word(b" answer=", r.answer as u64);
@@ -59,8 +80,34 @@ fn report(name: &[u8], r: Answer) {
     word(b" steps=", r.steps as u64);
     let queue = r.queue;
     let free = queue.available_desc();
-    word(b" free=", free.value as u64);
+    if free.answer == 0 {
+        word(b" free=", free.value as u64);
+    }
     io::write_all(1, b"\n");
+}
+
+// Tells the device of a list that was added, if it wants to be told.
+fn notify<'a>(sent: Answer, one: &'a [u8], two: &'a [u8], pool: &[u8]) {
+    if sent.answer != 0 {
+        return;
+    }
+    let queue = sent.queue;
+    let asked = queue.should_notify(one, two, pool);
+    report(b"should_notify", asked);
+    if asked.value == 1 {
+        io::write_all(1, b"the device is notified\n");
+    }
+}
+
+// Whether a list was added and the device has given one back.
+fn ready<'a>(sent: Answer, one: &'a [u8], two: &'a [u8], pool: &[u8]) -> bool {
+    if sent.answer != 0 {
+        return false;
+    }
+    let queue = sent.queue;
+    let asked = queue.can_pop(one, two, pool);
+    report(b"can_pop", asked);
+    asked.value == 1
 }
 
 // The device fills block and status: element 0 of the used ring gets the chain's head and 513 bytes, and then used idx is 1.
@@ -103,54 +150,84 @@ fn buffer(addr: u64, len: u32, output: bool) -> Buffer {
     Buffer { addr, len, output }
 }
 
+fn read_block() -> Request {
+    Request {
+        header: buffer(65536, 16, false),
+        block: buffer(131072, 512, true),
+        status: buffer(65552, 1, true),
+    }
+}
+
+// Sends the request over a queue that was just made; a refused new is handed on.
+fn submit(made: Made, request: Request, one: &mut [u8], two: &[u8], pool: &mut [u8]) -> Answer {
+    let queue = made.queue;
+    if made.answer != 0 {
+        return Answer {
+            answer: made.answer,
+            value: 0,
+            steps: 0,
+            queue,
+        };
+    }
+    let sent = send(queue, request, one, two, pool);
+    report(b"add", sent);
+    sent
+}
+
+// A pop by another list is refused once the device's element is read, and closes.
+fn mistake(
+    queue: Queue,
+    token: u32,
+    block: Buffer,
+    one: &mut [u8],
+    two: &[u8],
+    pool: &mut [u8],
+) -> Queue {
+    let opened = open_pop_many(queue, token, block, one, two, pool);
+    report(b"pop of 66 buffers, opened", opened);
+    let queue = opened.queue;
+    let closed = queue.run(10, one, two, pool);
+    report(b"pop of 66 buffers, run", closed);
+    closed.queue
+}
+
+fn take(
+    queue: Queue,
+    token: u32,
+    request: Request,
+    one: &mut [u8],
+    two: &[u8],
+    pool: &mut [u8],
+) -> Queue {
+    let done = receive(queue, token, request, one, two, pool);
+    report(b"pop", done);
+    done.queue
+}
+
+fn too_many(queue: Queue, block: Buffer, one: &[u8], two: &[u8], pool: &[u8]) {
+    let opened = open_add_many(queue, block, one, two, pool);
+    report(b"add of 66 buffers, opened", opened);
+}
+
+// Has the request back, with a list that no queue takes tried before and after.
+fn finish(sent: Answer, request: Request, one: &mut [u8], two: &[u8], pool: &mut [u8]) {
+    let block = request.block;
+    let queue = mistake(sent.queue, sent.value, block, one, two, pool);
+    let queue = take(queue, sent.value, request, one, two, pool);
+    too_many(queue, block, one, two, pool);
+}
+
 fn main() {
     let mut one = [0u8; 78];
     let mut two = [0u8; 38];
     let mut pool = [0u8; 1];
     let made = Queue::new(question(), &mut one, &mut two, &pool);
     told(made);
-    let header = buffer(65536, 16, false);
-    let block = buffer(131072, 512, true);
-    let status = buffer(65552, 1, true);
-    let queue = made.queue;
-    let sent = send(queue, header, block, status, &mut one, &two, &mut pool);
-    report(b"add", sent);
-    let token = sent.value;
-    let queue = sent.queue;
-    let early = receive(
-        queue,
-        token,
-        header,
-        block,
-        status,
-        &mut one,
-        &two,
-        &mut pool,
-    );
-    report(b"pop, too early", early);
+    let request = read_block();
+    let sent = submit(made, request, &mut one, &two, &mut pool);
+    notify(sent, &one, &two, &pool);
     let two = complete(two, one[68]);
-    let queue = early.queue;
-    let wrong = receive(
-        queue,
-        token,
-        header,
-        status,
-        block,
-        &mut one,
-        &two,
-        &mut pool,
-    );
-    report(b"pop, another list", wrong);
-    let queue = wrong.queue;
-    let done = receive(
-        queue,
-        token,
-        header,
-        block,
-        status,
-        &mut one,
-        &two,
-        &mut pool,
-    );
-    report(b"pop", done);
+    if ready(sent, &one, &two, &pool) {
+        finish(sent, request, &mut one, &two, &mut pool);
+    }
 }
