@@ -23,6 +23,7 @@ use Rattle.mixing.specs.Device.{Wiring, Device, Act, Result, Worked, acting, be
 use Rattle.mixing.specs.Mix as mix
 use Rattle.mixing.specs.Demand.{Whole, inTurn, start, wiring}
 use Rattle.mixing.specs.Proof.{demand3}
+use Rattle.mixing.specs.Orders.{callsIn, actsIn, AllWhole, own-calls, own-acts, explained-whole}
 use Rattle.driven.specs.declared.Event.{Event}
 use Rattle.driven.specs.Named.{Drive, called, stepped, eventOf, ruled, driveOf}
 use Rattle.driven.specs.Unaltered.{Unaltered, busy-unaltered, idle-unaltered}
@@ -211,10 +212,15 @@ begun r m = record {
   results = [];
 }
 
--- an order of whole calls and whole acts that leaves the trace of a run
+-- an order of whole calls and whole acts that leaves the trace of a run: by the rules, and by any run of the code that makes them in this order; its calls
+-- and its acts are those that were begun, each side's in its own order, and each is whole
 pub record Explains (w : Wiring) (n : ℕ) (s u : State) : Type 0 where
   pub order : List Whole
   pub same-trace : mix.trace w (inTurn n order) (traceOf s) ≡ traceOf u
+  pub in-code : (v : State) → Ran w (inTurn n order) s v → traceOf v ≡ traceOf u
+  pub calls : callsIn order ≡ u .calls
+  pub acts : actsIn order ≡ u .acts
+  pub whole : AllWhole w order (traceOf s)
 
 -- THE THEOREM: over a queue that new has made, whatever run of the methods and of a rule-keeping device, with no call and no act left half done
 abbrev pub CodeDemand3 : Ask → Made → Memory → Type 0
@@ -227,11 +233,20 @@ pub code-demand3 : (a : Ask) (r : Made) (m m′ : Memory) → madeOf r m′ ≡ 
 code-demand3 a r m m′ e z es u h c d =
     let b : traceOf (begun r m′) ≡ start (rule.new (askOf a) m) = ap start e in
     let t : traceOf u ≡ mix.trace (wiring (askOf a)) es (start (rule.new (askOf a) m)) = ran-is-mixing (wiring (askOf a)) es (begun r m′) u h ∙ ap (mix.trace (wiring (askOf a)) es) b in
-    let x = demand3 (askOf a) m (sym (ap (λ (y : rule.Made). y .answer) e) ∙ z) es (record {
+    let f : rule.new (askOf a) m .answer ≡ 0 = sym (ap (λ (y : rule.Made). y .answer) e) ∙ z in
+    let x = demand3 (askOf a) m f es (record {
       no-call = sym (ap (λ (y : mix.Trace). isOpen (y .queue .call)) t) ∙ c;
       no-act = sym (ap (λ (y : mix.Trace). acting (y .device .doing)) t) ∙ d;
     }) in
-    record { order = x .order; same-trace = ap (mix.trace (wiring (askOf a)) (inTurn (a .n) (x .order))) b ∙ x .same-trace ∙ sym t }
+    let k : mix.trace (wiring (askOf a)) (inTurn (a .n) (x .order)) (traceOf (begun r m′)) ≡ traceOf u = ap (mix.trace (wiring (askOf a)) (inTurn (a .n) (x .order))) b ∙ x .same-trace ∙ sym t in
+    record {
+      order = x .order;
+      same-trace = k;
+      in-code = λ v g. ran-is-mixing (wiring (askOf a)) (inTurn (a .n) (x .order)) (begun r m′) v g ∙ k;
+      calls = own-calls (askOf a) m f es x ∙ sym (ap (λ (y : mix.Trace). y .calls) t);
+      acts = own-acts (askOf a) m f es x ∙ sym (ap (λ (y : mix.Trace). y .acts) t);
+      whole = subst (AllWhole (wiring (askOf a)) (x .order)) (sym b) (explained-whole (askOf a) m f es x);
+    }
 
 -- THE CONTRACT of `driven::start`: the queue is the one that new makes, a run begins there, and demand 3 holds of all that follows
 pub record Starts (a : Ask) (m : Memory) (r : Made) (m′ : Memory) : Type 0 where

@@ -5,6 +5,7 @@ use mathlib.Core.Bool.{Bool, true, false, cond}
 use mathlib.Core.List.{List, [], _∷_, _++_}
 use Prim.Native.Nat.{ℕ, zero, suc, _+_, _-_, _/_, _%_}
 use lib.Dec.{eqb}
+use lib.ListN.{take, drop}
 use Rattle.lists.specs.Index.{after}
 use Rattle.virtio.specs.declared.Desc.{Desc}
 use Rattle.virtio.specs.declared.Buffer.{Buffer}
@@ -159,3 +160,16 @@ module _ (w : Wiring) where
       → work (complete-idx h l) d (work (complete-len h l) d (work (complete-id h l) d m .memory) .memory) .memory
       ≡ written (w .legacy) (w .n) (givingBack (w .n) (d .used) h l) m
   completes h l d m = refl
+
+  -- Each makes one of them, and in their order.
+  pub completes-first : (h l : ℕ) (d : Device) (m : Memory)
+      → work (complete-id h l) d m .memory ≡ written (w .legacy) (w .n) (take 1 (givingBack (w .n) (d .used) h l)) m
+  completes-first h l d m = refl
+
+  pub completes-second : (h l : ℕ) (d : Device) (m : Memory)
+      → work (complete-len h l) d m .memory ≡ written (w .legacy) (w .n) (take 1 (drop 1 (givingBack (w .n) (d .used) h l))) m
+  completes-second h l d m = refl
+
+  pub completes-last : (h l : ℕ) (d : Device) (m : Memory)
+      → work (complete-idx h l) d m .memory ≡ written (w .legacy) (w .n) (drop 2 (givingBack (w .n) (d .used) h l)) m
+  completes-last h l d m = refl
