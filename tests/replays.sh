@@ -1,6 +1,6 @@
 #!/bin/sh
 # Runs the replay program on the stored cases and compares byte for byte: sh tests/replays.sh [PROGRAM]
-# Also: the longest texts, input that comes in pieces, and ./replay as a user calls it, also where its output cannot be written.
+# Also: the longest texts, input that comes in pieces, and ./replay as a user calls it, also where its output cannot be written or the program crashes.
 # Needs nothing but a POSIX shell and its tools, and mktemp.
 root=$(cd "$(dirname "$0")/.." && pwd) || exit 2
 program=${1:-$root/target/bin/replay_main}
@@ -154,6 +154,10 @@ elsewhere() {
     (cd / && "$folder/user/replay" "$folder/user/a b.replay")
 }
 
+linked() {
+    (cd / && "$folder/bin/linked" "$folder/user/a b.replay")
+}
+
 # The command beside a program, in a folder of its own, so that any program can be tried.
 as_a_user() {
     mkdir -p "$folder/user/target/bin" "$folder/bin" || exit 2
@@ -164,6 +168,10 @@ as_a_user() {
     outputs "./replay FILE" ./replay "a b.replay"
     outputs "./replay < FILE" ./replay <"a b.replay"
     outputs "./replay from elsewhere" elsewhere
+    if command -v readlink >/dev/null 2>&1; then
+        ln -s ../user/replay "$folder/bin/linked"
+        outputs "./replay through a link" linked
+    fi
     cat "$cases/worked.expected" "$cases/id_letters.expected" "$cases/worked.expected" >"$folder/want"
     outputs "./replay with several files" ./replay "a b.replay" wrong "$folder/user/a b.replay"
     user_errors
@@ -184,6 +192,17 @@ into_a_closed_pipe() {
     count "./replay FILE into a closed pipe, the signal ignored" 1
 }
 
+# A program that a signal ends after some output.
+crashing() {
+    printf '#!/bin/sh\necho size=4\nkill -s SEGV $$\n' >target/bin/replay_main
+    chmod +x target/bin/replay_main
+    echo size=4 >"$folder/want"
+    echo "replay: the program ended by signal SEGV" >"$folder/tell"
+    ./replay "a b.replay" >"$folder/got" 2>"$folder/said"
+    code=$?
+    count "./replay with a program that crashes" 1
+}
+
 user_errors() {
     : >"$folder/want"
     echo "replay: cannot read the file none.replay" >"$folder/tell"
@@ -199,6 +218,8 @@ user_errors() {
         full "./replay with two files to a full disk" ./replay "a b.replay" wrong
     fi
     into_a_closed_pipe
+    rm target/bin/replay_main
+    crashing
     rm target/bin/replay_main
     ln -s "$(command -v dirname)" "$folder/bin/dirname"
     : >"$folder/want"

@@ -22,10 +22,6 @@ def seen(program):
         yield from [title, *programs.run(program, "\n".join(ops) + "\n"), ""]
 
 
-def kept(side):
-    return os.path.join(programs.HERE, "recorded", f"outside.{side}")
-
-
 def sides(ours):
     """The programs at hand; the crate's are built first."""
     if programs.missing():
@@ -36,9 +32,12 @@ def sides(ours):
 
 
 def record(ours):
-    for side, program in sides(ours).items():
-        with open(kept(side), "w") as file:
+    """Whether the crate's programs could be built and all three were recorded."""
+    at_hand = sides(ours) or {}
+    for side, program in at_hand.items():
+        with open(os.path.join(programs.RECORDED, f"outside.{side}"), "w") as file:
             file.write("\n".join(seen(program)))
+    return len(at_hand) == 3
 
 
 def compare(ours):
@@ -47,9 +46,10 @@ def compare(ours):
     if programs_at_hand is None:
         return 2
     for side, program in programs_at_hand.items():
-        with open(kept(side)) as file:
-            wanted = file.read().split("\n")
-        lines = list(seen(program))
+        told = programs.kept(f"outside.{side}")
+        if told is None:
+            return 1
+        lines, wanted = list(seen(program)), told.split("\n")
         at = programs.first_difference(lines, wanted)
         if at is not None:
             print(f"differs: recorded/outside.{side}, line {at + 1}:", *programs.differing(lines, wanted, at), sep="\n  ")
@@ -76,7 +76,7 @@ def kind(ours, ops):
 
 def shrink(ours):
     """Prints each use as small as it can be made; what follows the first difference is dropped."""
-    if len(sides(ours) or ()) < 3:
+    if not programs.at_hand() or sides(ours) is None:
         return 2
     for title, ops in blocks():
         print(title, *shrinking.shrunk(ops, functools.partial(kind, ours)), "", sep="\n")

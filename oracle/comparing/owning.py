@@ -32,11 +32,6 @@ class Owning(scripts.Script):
     def write(self, offset, width, number):
         self.say(f"13 3 {offset} {width} {number}")
 
-    def want(self, flags, event):
-        """The device's wishes about notifications, in both forms."""
-        self.say(f"13 {self.region} {self.used_at} 2 {flags}")
-        self.say(f"13 {self.region} {self.used_at + 4 + 8 * self.size} 2 {event}")
-
 
 def letter(script, c):
     """One letter of a short script: three ways of giving a buffer back, poll, the two questions, wishes, and bytes in the store."""

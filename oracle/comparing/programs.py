@@ -6,9 +6,12 @@ import subprocess
 HERE = os.path.dirname(os.path.dirname(os.path.abspath(__file__)))
 ROOT = os.path.dirname(HERE)
 OURS = os.path.join(ROOT, "target", "bin", "calls_runs")
+BENCH = os.path.join(HERE, "bench")
 ORACLE = os.path.join(HERE, "target", "release", "oracle")
 PLAIN = os.path.join(HERE, "target", "debug", "oracle")
-TRACED = os.path.join(HERE, "bench", "target", "release", "traced")
+TRACED = os.path.join(BENCH, "target", "release", "traced")
+RECORDED = os.path.join(HERE, "recorded")
+FILES = ("queue.rs", "queue/owning.rs")
 MOST = 1 << 20
 
 
@@ -19,25 +22,44 @@ def source():
 
 def missing():
     """What a comparison with the crate itself would need and does not find."""
-    if not os.path.isfile(os.path.join(source(), "queue.rs")):
+    if not all(os.path.isfile(os.path.join(source(), name)) for name in FILES):
         return "the crate's source is"
     return None if shutil.which("cargo") else "cargo is"
 
 
+def at_hand(quiet=False):
+    """Whether the crate can be run; one line says what is missing."""
+    if missing() and not quiet:
+        print(f"oracle: {missing()} not at hand, nothing is compared with the crate (oracle/README.md says where it is looked for)")
+    return not missing()
+
+
+def cargo(folder, *words):
+    """Builds where this module looks for the programs, whatever place or target the environment names; cargo says what is wrong where it fails."""
+    told = {name: value for name, value in os.environ.items() if name != "CARGO_BUILD_TARGET"}
+    command = ["cargo", "build", "--offline", "--quiet", "--target-dir", os.path.join(folder, "target"), *words]
+    return subprocess.run(command, cwd=folder, env=told).returncode == 0
+
+
 def build(*words):
-    """Builds the oracle, optimised unless other words are given; cargo says what is wrong where it fails."""
-    command = ["cargo", "build", "--offline", "--quiet", *(words or ["--release"])]
-    return subprocess.run(command, cwd=HERE).returncode == 0
+    """Builds the oracle, optimised unless other words are given."""
+    return cargo(HERE, *(words or ["--release"]))
+
+
+def archive():
+    """Our archive, proved and made anew; where that fails, the end of what the kit said is printed."""
+    if not shutil.which("rt"):
+        print("oracle: the Rattle kit's command rt, which makes our archive, is not on the PATH")
+        return False
+    told = subprocess.run(["rt", "staticlib", "exports"], cwd=ROOT, stdout=subprocess.PIPE, stderr=subprocess.STDOUT, text=True)
+    if told.returncode != 0:
+        print("oracle: rt staticlib exports failed; its last lines:", *told.stdout.splitlines()[-10:], sep="\n  ")
+    return told.returncode == 0
 
 
 def traced():
-    """The program that runs our archive's calls over closed pages, built anew; None without the kit, which makes the archive."""
-    if not shutil.which("rt"):
-        return None
-    made = subprocess.run(["rt", "staticlib", "exports"], cwd=ROOT, stdout=subprocess.DEVNULL, stderr=subprocess.DEVNULL)
-    command = ["cargo", "build", "--offline", "--quiet", "--release", "--bin", "traced"]
-    built = made.returncode == 0 and subprocess.run(command, cwd=os.path.join(HERE, "bench")).returncode == 0
-    return TRACED if built else None
+    """The program that runs our archive's calls over closed pages, built anew; None where it cannot be."""
+    return TRACED if archive() and cargo(BENCH, "--release", "--bin", "traced") else None
 
 
 def run(program, text, *words):
@@ -47,6 +69,16 @@ def run(program, text, *words):
     if told.returncode != 0:
         lines.append(f"exit {told.returncode}")
     return lines
+
+
+def kept(name):
+    """The text of a recorded file; None where there is none, which is said."""
+    try:
+        with open(os.path.join(RECORDED, name)) as file:
+            return file.read()
+    except OSError as error:
+        print(f"oracle: recorded/{name} cannot be read ({error.strerror}); --record makes it")
+        return None
 
 
 def both(ours, text):

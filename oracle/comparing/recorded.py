@@ -9,7 +9,7 @@ import programs
 import scripts
 import wraps
 
-FOLDER = os.path.join(programs.HERE, "recorded")
+WRAPS = ((1, 2), (4, 3), (8, 0))
 
 
 def some_short():
@@ -28,39 +28,44 @@ def over_the_wrap(size, modes):
     return wraps.carried(pieces[0][0], before) + pieces[-1], lines[:1] + lines[len(before):]
 
 
+def kinds():
+    """The scripts of each file, but for the wraps."""
+    return {"short": some_short(), "random": (scripts.some_script(0, index) for index in range(60)),
+            "owning": (owning.some_script(0, index) for index in range(0, 280, 5)),
+            "new": itertools.islice(news.every(), 7, None, 29)}
+
+
+def names():
+    return sorted([*kinds(), *(f"wrap{size}" for size, _ in WRAPS)])
+
+
 def write(name, ops, lines):
     for ending, told in (("script", ops), ("lines", lines)):
-        with open(os.path.join(FOLDER, f"{name}.{ending}"), "w") as file:
+        with open(os.path.join(programs.RECORDED, f"{name}.{ending}"), "w") as file:
             file.write("\n".join(told) + "\n")
 
 
 def record(ours):
     """Makes the recorded files anew with the oracle; only what ours does outside the rules is its own."""
-    if not programs.build():
+    os.makedirs(programs.RECORDED, exist_ok=True)
+    if not (programs.at_hand() and outside.record(ours)):
         return 2
-    os.makedirs(FOLDER, exist_ok=True)
-    outside.record(ours)
-    kinds = {"short": some_short(), "random": (scripts.some_script(0, index) for index in range(60)),
-             "owning": (owning.some_script(0, index) for index in range(0, 280, 5)),
-             "new": itertools.islice(news.every(), 7, None, 29)}
-    for name, made in kinds.items():
+    for name, made in kinds().items():
         ops = [op for script in made for op in script.ops]
         write(name, ops, programs.run(programs.ORACLE, "\n".join(ops) + "\n"))
-    for size, modes in ((1, 2), (4, 3), (8, 0)):
+    for size, modes in WRAPS:
         write(f"wrap{size}", *over_the_wrap(size, modes))
     return 0
-
-
-def read(name, ending):
-    with open(os.path.join(FOLDER, f"{name}.{ending}")) as file:
-        return file.read()
 
 
 def replay(ours):
     """Runs ours over the recorded scripts, and says the first line that differs."""
     count = total = 0
-    for name in sorted(file[:-7] for file in os.listdir(FOLDER) if file.endswith(".script")):
-        lines, theirs = programs.run(ours, read(name, "script")), read(name, "lines").splitlines()
+    for name in names():
+        script, wanted = (programs.kept(f"{name}.{ending}") for ending in ("script", "lines"))
+        if script is None or wanted is None:
+            return 1
+        lines, theirs = programs.run(ours, script), wanted.splitlines()
         at = programs.first_difference(lines, theirs)
         if at is not None:
             print(f"differs: recorded/{name}, line {at + 1}:", *programs.differing(lines, theirs, at), sep="\n  ")

@@ -6,6 +6,7 @@ SIZES = (1, 2, 4, 8, 16, 32, 64)
 INDIRECT, EVENT, LEGACY = 1, 2, 4
 LONGEST = (1 << 32) - 1
 LETTERS = "12onpkcs"
+WISHES = "1opsdwfg"
 BUFFERS = [(4096, 10, 0), (8192, 20, 1), (12288, 30, 1)]
 
 
@@ -71,6 +72,11 @@ class Script:
         self.store_idx(self.count)
         self.told = len(self.done)
 
+    def want(self, flags, event):
+        """The device's wishes about notifications, in both forms."""
+        self.say(f"13 {self.region} {self.used_at} 2 {flags}")
+        self.say(f"13 {self.region} {self.used_at + 4 + 8 * self.size} 2 {event % 65536}")
+
     def pop(self):
         """Pops what the device completed first, with its own list; with nothing told it is refused as not ready."""
         if not self.told:
@@ -95,8 +101,11 @@ def letter(script, c):
         script.publish()
     elif c == "p":
         script.pop()
+    elif c in "fg":
+        # Flags and event index wish the opposite, so that a load of the wrong one shows.
+        script.want(*(1, script.adds - 1) if c == "f" else (0, script.adds))
     else:
-        script.say({"k": "6 0", "c": "10 0", "s": "11 0", "d": "12 0"}[c])
+        script.say({"k": "6 0", "c": "10 0", "s": "11 0", "d": "12 0", "w": "12 1"}[c])
     return True
 
 
@@ -115,6 +124,12 @@ def words(size, modes, letters, length):
         for c in letters:
             if short(size, modes, word + c):
                 yield word + c
+
+
+def every_short(size, modes, letters, length):
+    """The scripts of these words."""
+    for word in words(size, modes, letters, length - 1):
+        yield from filter(None, (short(size, modes, word + c) for c in letters))
 
 
 def some_list(rng, most):

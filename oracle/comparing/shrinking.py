@@ -1,5 +1,6 @@
 """A script made smaller while it still shows the same: fewer operations, fewer buffers, a smaller queue, simpler numbers."""
 import time
+from collections import Counter
 
 import scripts
 
@@ -55,9 +56,25 @@ def smaller(text):
             yield from (numbers[:i] + [x] + numbers[i + 1:] for x in lower(numbers[i]))
 
 
+def list_of(text):
+    """The list of an add or a pop as the script has it, or None."""
+    op, _, *rest = text.split(" ", 2)
+    return rest[0] if op in ("2", "4") else None
+
+
+def smaller_together(ops):
+    """Scripts in which a list that several operations have, as an add and its pop do, is made smaller in all of them."""
+    lists = Counter(filter(None, map(list_of, ops)))
+    for listed in (listed for listed, times in lists.items() if times > 1):
+        for _, _, *less in smaller(f"2 0 {listed}"):
+            other = " ".join(map(str, less))
+            yield [text.removesuffix(listed) + other if list_of(text) == listed else text for text in ops]
+
+
 def simpler(ops):
-    """Scripts with one operation less, or with one made smaller."""
+    """Scripts with one operation less, or with one made smaller, or with a list made smaller wherever it stands."""
     yield from (ops[:i] + ops[i + 1:] for i in range(1, len(ops)))
+    yield from smaller_together(ops)
     for i, text in enumerate(ops):
         yield from (ops[:i] + [" ".join(map(str, numbers))] + ops[i + 1:] for numbers in smaller(text))
 
