@@ -13,6 +13,12 @@ use record::Answer;
 use record::Queue;
 use virtio::Buffer;
 
+// An outstanding chain: the queue, and the token that add answered.
+pub struct Outstanding {
+    pub queue: Queue,
+    pub token: u32,
+}
+
 // A list that was copied: how many buffers it has, the first 65 of them, whether there is an output, and whether an input comes after one.
 struct Gathered {
     count: usize,
@@ -122,10 +128,16 @@ fn shortened(g: Gathered) -> Gathered
     }
 }
 
-// ---- the calls on the copy
+// ---- the calls on the copy, each of the shape that the entries' law asks for
 
-fn open_add_gathered(queue: Queue, g: Gathered, one: &[u8], two: &[u8], pool: &[u8]) -> Answer
-    ensures { λ r. ⌜ answerOf r (memory (now (one .entry)) (now (two .entry)) (now (pool .entry))) ≡ openAdd (abs queue) (memory (now (one .entry)) (now (two .entry)) (now (pool .entry))) (standsFor g) ⌝ }
+fn open_add_gathered(
+    queue: Queue,
+    g: Gathered,
+    one: &mut [u8],
+    two: &[u8],
+    pool: &mut [u8],
+) -> Answer
+    ensures { λ r. ⌜ answerOf r (memory (now (one .exit)) (now (two .entry)) (now (pool .exit))) ≡ openAdd (abs queue) (memory (now (one .entry)) (now (two .entry)) (now (pool .entry))) (standsFor g) ⌝ }
 {
     let s = shortened(g);
     let addrs = s.addrs;
@@ -136,21 +148,21 @@ fn open_add_gathered(queue: Queue, g: Gathered, one: &[u8], two: &[u8], pool: &[
 }
 
 fn open_pop_gathered(
-    queue: Queue,
-    token: u32,
+    chain: Outstanding,
     g: Gathered,
-    one: &[u8],
+    one: &mut [u8],
     two: &[u8],
-    pool: &[u8],
+    pool: &mut [u8],
 ) -> Answer
-    ensures { λ r. ⌜ answerOf r (memory (now (one .entry)) (now (two .entry)) (now (pool .entry))) ≡ openPop (abs queue) (memory (now (one .entry)) (now (two .entry)) (now (pool .entry))) token (standsFor g) ⌝ }
+    ensures { λ r. ⌜ answerOf r (memory (now (one .exit)) (now (two .entry)) (now (pool .exit))) ≡ openPop (abs (chain .queue)) (memory (now (one .entry)) (now (two .entry)) (now (pool .entry))) (chain .token) (standsFor g) ⌝ }
 {
+    let queue = chain.queue;
     let s = shortened(g);
     let addrs = s.addrs;
     let sizes = s.sizes;
     let outs = s.outs;
     let k = s.count;
-    queue.open_pop(token, &addrs[..k], &sizes, &outs, one, two, pool)
+    queue.open_pop(chain.token, &addrs[..k], &sizes, &outs, one, two, pool)
 }
 
 fn add_gathered(queue: Queue, g: Gathered, one: &mut [u8], two: &[u8], pool: &mut [u8]) -> Answer
@@ -165,44 +177,49 @@ fn add_gathered(queue: Queue, g: Gathered, one: &mut [u8], two: &[u8], pool: &mu
 }
 
 fn pop_used_gathered(
-    queue: Queue,
-    token: u32,
+    chain: Outstanding,
     g: Gathered,
     one: &mut [u8],
     two: &[u8],
     pool: &mut [u8],
 ) -> Answer
-    ensures { λ r. ⌜ answerOf r (memory (now (one .exit)) (now (two .entry)) (now (pool .exit))) ≡ popUsed (abs queue) (memory (now (one .entry)) (now (two .entry)) (now (pool .entry))) token (standsFor g) ⌝ }
+    ensures { λ r. ⌜ answerOf r (memory (now (one .exit)) (now (two .entry)) (now (pool .exit))) ≡ popUsed (abs (chain .queue)) (memory (now (one .entry)) (now (two .entry)) (now (pool .entry))) (chain .token) (standsFor g) ⌝ }
 {
+    let queue = chain.queue;
     let s = shortened(g);
     let addrs = s.addrs;
     let sizes = s.sizes;
     let outs = s.outs;
     let k = s.count;
-    queue.pop_used(token, &addrs[..k], &sizes, &outs, one, two, pool)
+    queue.pop_used(chain.token, &addrs[..k], &sizes, &outs, one, two, pool)
 }
 
-// ---- the entries, by hand
+// ---- the entries, by hand: one shape, so that one law proves them (proofs/Entry.antt)
 
 // Opens an add: everything is checked, and the private record updated but for avail_idx.
-pub fn open_add(queue: Queue, list: &[Buffer], one: &[u8], two: &[u8], pool: &[u8]) -> Answer
-    ensures { λ r. ⌜ answerOf r (memory (now (one .entry)) (now (two .entry)) (now (pool .entry))) ≡ openAdd (abs queue) (memory (now (one .entry)) (now (two .entry)) (now (pool .entry))) (now (list .entry)) ⌝ }
+pub fn open_add(
+    queue: Queue,
+    list: &[Buffer],
+    one: &mut [u8],
+    two: &[u8],
+    pool: &mut [u8],
+) -> Answer
+    ensures { λ r. ⌜ answerOf r (memory (now (one .exit)) (now (two .entry)) (now (pool .exit))) ≡ openAdd (abs queue) (memory (now (one .entry)) (now (two .entry)) (now (pool .entry))) (now (list .entry)) ⌝ }
 {
     open_add_gathered(queue, gather(list), one, two, pool)
 }
 
 // Opens a pop: it keeps the token and whether the list is the one that was added.
 pub fn open_pop(
-    queue: Queue,
-    token: u32,
+    chain: Outstanding,
     list: &[Buffer],
-    one: &[u8],
+    one: &mut [u8],
     two: &[u8],
-    pool: &[u8],
+    pool: &mut [u8],
 ) -> Answer
-    ensures { λ r. ⌜ answerOf r (memory (now (one .entry)) (now (two .entry)) (now (pool .entry))) ≡ openPop (abs queue) (memory (now (one .entry)) (now (two .entry)) (now (pool .entry))) token (now (list .entry)) ⌝ }
+    ensures { λ r. ⌜ answerOf r (memory (now (one .exit)) (now (two .entry)) (now (pool .exit))) ≡ openPop (abs (chain .queue)) (memory (now (one .entry)) (now (two .entry)) (now (pool .entry))) (chain .token) (now (list .entry)) ⌝ }
 {
-    open_pop_gathered(queue, token, gather(list), one, two, pool)
+    open_pop_gathered(chain, gather(list), one, two, pool)
 }
 
 // Adds a list of buffers; the value is the token.
@@ -214,14 +231,13 @@ pub fn add(queue: Queue, list: &[Buffer], one: &mut [u8], two: &[u8], pool: &mut
 
 // Pops the token's list; the value is the device's length.
 pub fn pop_used(
-    queue: Queue,
-    token: u32,
+    chain: Outstanding,
     list: &[Buffer],
     one: &mut [u8],
     two: &[u8],
     pool: &mut [u8],
 ) -> Answer
-    ensures { λ r. ⌜ answerOf r (memory (now (one .exit)) (now (two .entry)) (now (pool .exit))) ≡ popUsed (abs queue) (memory (now (one .entry)) (now (two .entry)) (now (pool .entry))) token (now (list .entry)) ⌝ }
+    ensures { λ r. ⌜ answerOf r (memory (now (one .exit)) (now (two .entry)) (now (pool .exit))) ≡ popUsed (abs (chain .queue)) (memory (now (one .entry)) (now (two .entry)) (now (pool .entry))) (chain .token) (now (list .entry)) ⌝ }
 {
-    pop_used_gathered(queue, token, gather(list), one, two, pool)
+    pop_used_gathered(chain, gather(list), one, two, pool)
 }

@@ -1,12 +1,11 @@
 // A guest that reads a block: it takes a queue into use, sends a request of three buffers, and has it back when the device is done. The device is a
 // few stores of this program. It prints what each call answered.
 ghost use mathlib.Core.Path.{_≡_};
-ghost use mathlib.Core.List.{[], _∷_};
-ghost use lib.ListN.{replicate};
 ghost use Rattle.rules.specs.Calls.{openAdd, openPop, add as addIs, popUsed};
 ghost use Rattle.access.specs.Accesses.{memory};
 ghost use Rattle.record.specs.Abs.{abs};
 ghost use Rattle.record.specs.Asked.{answerOf};
+use buffers::Outstanding;
 use record::Answer;
 use record::Ask;
 use record::Made;
@@ -21,51 +20,58 @@ struct Request {
     status: Buffer,
 }
 
-// Adds the request's buffers. The proof is by hand, as of every function that makes a slice of structs.
-fn send(queue: Queue, request: Request, one: &mut [u8], two: &[u8], pool: &mut [u8]) -> Answer
-    ensures { λ r. ⌜ answerOf r (memory (now (one .exit)) (now (two .entry)) (now (pool .exit))) ≡ addIs (abs queue) (memory (now (one .entry)) (now (two .entry)) (now (pool .entry))) (request .header ∷ request .block ∷ request .status ∷ []) ⌝ }
-{
-    let list = [request.header, request.block, request.status];
-    buffers::add(queue, &list, one, two, pool)
-}
+// ---- the calls, each with a list of its own. Code that lends a slice of structs is proved by hand, and for this shape by one law (buffers/proofs/Lender.antt).
 
-// Pops the request's buffers, which must be those that were added. The proof is by hand.
-fn receive(
+fn add_request(
     queue: Queue,
-    token: u32,
-    request: Request,
+    list: [Buffer; 3],
     one: &mut [u8],
     two: &[u8],
     pool: &mut [u8],
 ) -> Answer
-    ensures { λ r. ⌜ answerOf r (memory (now (one .exit)) (now (two .entry)) (now (pool .exit))) ≡ popUsed (abs queue) (memory (now (one .entry)) (now (two .entry)) (now (pool .entry))) token (request .header ∷ request .block ∷ request .status ∷ []) ⌝ }
+    ensures { λ r. ⌜ answerOf r (memory (now (one .exit)) (now (two .entry)) (now (pool .exit))) ≡ addIs (abs queue) (memory (now (one .entry)) (now (two .entry)) (now (pool .entry))) list ⌝ }
 {
-    let list = [request.header, request.block, request.status];
-    buffers::pop_used(queue, token, &list, one, two, pool)
+    buffers::add(queue, &list, one, two, pool)
 }
 
-// Opens an add of the same buffer 66 times over, more than any queue takes. The proof is by hand.
-fn open_add_many(queue: Queue, block: Buffer, one: &[u8], two: &[u8], pool: &[u8]) -> Answer
-    ensures { λ r. ⌜ answerOf r (memory (now (one .entry)) (now (two .entry)) (now (pool .entry))) ≡ openAdd (abs queue) (memory (now (one .entry)) (now (two .entry)) (now (pool .entry))) (replicate 66 block) ⌝ }
+fn pop_request(
+    chain: Outstanding,
+    list: [Buffer; 3],
+    one: &mut [u8],
+    two: &[u8],
+    pool: &mut [u8],
+) -> Answer
+    ensures { λ r. ⌜ answerOf r (memory (now (one .exit)) (now (two .entry)) (now (pool .exit))) ≡ popUsed (abs (chain .queue)) (memory (now (one .entry)) (now (two .entry)) (now (pool .entry))) (chain .token) list ⌝ }
 {
-    let list = [block; 66];
+    buffers::pop_used(chain, &list, one, two, pool)
+}
+
+// More buffers than any queue takes.
+fn open_add_many(
+    queue: Queue,
+    list: [Buffer; 66],
+    one: &mut [u8],
+    two: &[u8],
+    pool: &mut [u8],
+) -> Answer
+    ensures { λ r. ⌜ answerOf r (memory (now (one .exit)) (now (two .entry)) (now (pool .exit))) ≡ openAdd (abs queue) (memory (now (one .entry)) (now (two .entry)) (now (pool .entry))) list ⌝ }
+{
     buffers::open_add(queue, &list, one, two, pool)
 }
 
-// Opens a pop with such a list. The proof is by hand.
 fn open_pop_many(
-    queue: Queue,
-    token: u32,
-    block: Buffer,
-    one: &[u8],
+    chain: Outstanding,
+    list: [Buffer; 66],
+    one: &mut [u8],
     two: &[u8],
-    pool: &[u8],
+    pool: &mut [u8],
 ) -> Answer
-    ensures { λ r. ⌜ answerOf r (memory (now (one .entry)) (now (two .entry)) (now (pool .entry))) ≡ openPop (abs queue) (memory (now (one .entry)) (now (two .entry)) (now (pool .entry))) token (replicate 66 block) ⌝ }
+    ensures { λ r. ⌜ answerOf r (memory (now (one .exit)) (now (two .entry)) (now (pool .exit))) ≡ openPop (abs (chain .queue)) (memory (now (one .entry)) (now (two .entry)) (now (pool .entry))) (chain .token) list ⌝ }
 {
-    let list = [block; 66];
-    buffers::open_pop(queue, token, &list, one, two, pool)
+    buffers::open_pop(chain, &list, one, two, pool)
 }
+
+// ---- what a guest does with them
 
 fn word(text: &[u8], value: u64) {
     io::write_all(1, text);
@@ -158,6 +164,13 @@ fn read_block() -> Request {
     }
 }
 
+fn listed(request: Request) -> [Buffer; 3] {
+    let header = request.header;
+    let block = request.block;
+    let status = request.status;
+    [header, block, status]
+}
+
 // Sends the request over a queue that was just made; a refused new is handed on.
 fn submit(made: Made, request: Request, one: &mut [u8], two: &[u8], pool: &mut [u8]) -> Answer {
     let queue = made.queue;
@@ -169,7 +182,7 @@ fn submit(made: Made, request: Request, one: &mut [u8], two: &[u8], pool: &mut [
             queue,
         };
     }
-    let sent = send(queue, request, one, two, pool);
+    let sent = add_request(queue, listed(request), one, two, pool);
     report(b"add", sent);
     sent
 }
@@ -183,7 +196,7 @@ fn mistake(
     two: &[u8],
     pool: &mut [u8],
 ) -> Queue {
-    let opened = open_pop_many(queue, token, block, one, two, pool);
+    let opened = open_pop_many(Outstanding { queue, token }, [block; 66], one, two, pool);
     report(b"pop of 66 buffers, opened", opened);
     let queue = opened.queue;
     let closed = queue.run(10, one, two, pool);
@@ -199,13 +212,19 @@ fn take(
     two: &[u8],
     pool: &mut [u8],
 ) -> Queue {
-    let done = receive(queue, token, request, one, two, pool);
+    let done = pop_request(
+        Outstanding { queue, token },
+        listed(request),
+        one,
+        two,
+        pool,
+    );
     report(b"pop", done);
     done.queue
 }
 
-fn too_many(queue: Queue, block: Buffer, one: &[u8], two: &[u8], pool: &[u8]) {
-    let opened = open_add_many(queue, block, one, two, pool);
+fn too_many(queue: Queue, block: Buffer, one: &mut [u8], two: &[u8], pool: &mut [u8]) {
+    let opened = open_add_many(queue, [block; 66], one, two, pool);
     report(b"add of 66 buffers, opened", opened);
 }
 

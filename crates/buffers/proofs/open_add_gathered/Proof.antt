@@ -42,13 +42,19 @@ slice-aggregate-open-add-3 c = search needs
 open-add-requires : tie.Need-open-add-requires
 open-add-requires c κs = search needs
 
+same-length : tie.Need-same-length
+same-length c = search needs
+
+same-length-2 : tie.Need-same-length-2
+same-length-2 c = search needs
+
 returns : tie.Need-returns
 returns c =
-    let g : Gathered = c .before .before .before .before .before .before .before .before .before .before .before .args .g in
-    let r : Gathered = c .before .before .before .before .before .before .before .shortened .result in
-    let e : r ≡ shortened g = c .before .before .before .before .before .before .before .shortened .ensures in
-    let q : model.Queue = abs (c .before .before .before .before .before .before .before .before .before .before .before .args .queue) in
-    let m : Memory = memory (now (c .before .before .before .before .before .before .before .before .before .before .before .args .one)) (now (c .before .before .before .before .before .before .before .before .before .before .before .args .two)) (now (c .before .before .before .before .before .before .before .before .before .before .before .args .pool)) in
+    let g : Gathered = c .before .before .before .before .before .before .before .before .before .before .before .before .before .args .g in
+    let r : Gathered = c .before .before .before .before .before .before .before .before .before .shortened .result in
+    let e : r ≡ shortened g = c .before .before .before .before .before .before .before .before .before .shortened .ensures in
+    let q : model.Queue = abs (c .before .before .before .before .before .before .before .before .before .before .before .before .before .args .queue) in
+    let m : Memory = memory (now (c .before .before .before .before .before .before .before .before .before .before .before .before .before .args .one)) (now (c .before .before .before .before .before .before .before .before .before .before .before .before .before .args .two)) (now (c .before .before .before .before .before .before .before .before .before .before .before .before .before .args .pool)) in
     c .open-add .ensures ∙ ap (λ (s : Gathered). openAdd q m (listOf s)) e
 
 pub open-add-gathered-spec : {M : Type 1} → statement M
@@ -61,4 +67,6 @@ open-add-gathered-spec =
     slice-aggregate-open-add-2
     slice-aggregate-open-add-3
     open-add-requires
+    same-length
+    same-length-2
     returns)

@@ -19,7 +19,7 @@ shortened-requires c κs = search needs
 
 array-share-prefix-addrs : tie.Need-array-share-prefix-addrs
 array-share-prefix-addrs c =
-    let g : Gathered = c .before .before .before .before .before .before .before .args .g in
+    let g : Gathered = c .before .before .before .before .before .before .before .before .args .g in
     let r : Gathered = c .before .before .before .shortened .result in
     let e : r ≡ shortened g = c .before .before .before .shortened .ensures in
     let l : length (r .addrs) ≡ 65 = search needs in
@@ -27,7 +27,7 @@ array-share-prefix-addrs c =
 
 slice-aggregate-open-pop : tie.Need-slice-aggregate-open-pop
 slice-aggregate-open-pop c =
-    let g : Gathered = c .before .before .before .before .before .before .before .before .args .g in
+    let g : Gathered = c .before .before .before .before .before .before .before .before .before .args .g in
     let r : Gathered = c .before .before .before .before .shortened .result in
     let e : r ≡ shortened g = c .before .before .before .before .shortened .ensures in
     let l : length (r .addrs) ≡ 65 = search needs in
@@ -42,15 +42,20 @@ slice-aggregate-open-pop-3 c = search needs
 open-pop-requires : tie.Need-open-pop-requires
 open-pop-requires c κs = search needs
 
+same-length : tie.Need-same-length
+same-length c = search needs
+
+same-length-2 : tie.Need-same-length-2
+same-length-2 c = search needs
+
 returns : tie.Need-returns
 returns c =
-    let g : Gathered = c .before .before .before .before .before .before .before .before .before .before .before .args .g in
-    let r : Gathered = c .before .before .before .before .before .before .before .shortened .result in
-    let e : r ≡ shortened g = c .before .before .before .before .before .before .before .shortened .ensures in
-    let q : model.Queue = abs (c .before .before .before .before .before .before .before .before .before .before .before .args .queue) in
-    let m : Memory = memory (now (c .before .before .before .before .before .before .before .before .before .before .before .args .one)) (now (c .before .before .before .before .before .before .before .before .before .before .before .args .two)) (now (c .before .before .before .before .before .before .before .before .before .before .before .args .pool)) in
-    let t : ℕ = c .before .before .before .before .before .before .before .before .before .before .before .args .token in
-    c .open-pop .ensures ∙ ap (λ (s : Gathered). openPop q m t (listOf s)) e
+    let g : Gathered = c .before .before .before .before .before .before .before .before .before .before .before .before .before .before .args .g in
+    let r : Gathered = c .before .before .before .before .before .before .before .before .before .shortened .result in
+    let e : r ≡ shortened g = c .before .before .before .before .before .before .before .before .before .shortened .ensures in
+    let q : model.Queue = abs (c .before .before .before .before .before .before .before .before .before .before .before .before .before .before .args .chain .queue) in
+    let m : Memory = memory (now (c .before .before .before .before .before .before .before .before .before .before .before .before .before .before .args .one)) (now (c .before .before .before .before .before .before .before .before .before .before .before .before .before .before .args .two)) (now (c .before .before .before .before .before .before .before .before .before .before .before .before .before .before .args .pool)) in
+    c .open-pop .ensures ∙ ap (λ (s : Gathered). openPop q m (c .before .before .before .before .before .before .before .before .before .before .before .before .before .before .args .chain .token) (listOf s)) e
 
 pub open-pop-gathered-spec : {M : Type 1} → statement M
 open-pop-gathered-spec =
@@ -62,4 +67,6 @@ open-pop-gathered-spec =
     slice-aggregate-open-pop-2
     slice-aggregate-open-pop-3
     open-pop-requires
+    same-length
+    same-length-2
     returns)

@@ -19,7 +19,7 @@ shortened-requires c κs = search needs
 
 array-share-prefix-addrs : tie.Need-array-share-prefix-addrs
 array-share-prefix-addrs c =
-    let g : Gathered = c .before .before .before .before .before .before .before .args .g in
+    let g : Gathered = c .before .before .before .before .before .before .before .before .args .g in
     let r : Gathered = c .before .before .before .shortened .result in
     let e : r ≡ shortened g = c .before .before .before .shortened .ensures in
     let l : length (r .addrs) ≡ 65 = search needs in
@@ -27,7 +27,7 @@ array-share-prefix-addrs c =
 
 slice-aggregate-pop-used : tie.Need-slice-aggregate-pop-used
 slice-aggregate-pop-used c =
-    let g : Gathered = c .before .before .before .before .before .before .before .before .args .g in
+    let g : Gathered = c .before .before .before .before .before .before .before .before .before .args .g in
     let r : Gathered = c .before .before .before .before .shortened .result in
     let e : r ≡ shortened g = c .before .before .before .before .shortened .ensures in
     let l : length (r .addrs) ≡ 65 = search needs in
@@ -50,13 +50,12 @@ same-length-2 c = search needs
 
 returns : tie.Need-returns
 returns c =
-    let g : Gathered = c .before .before .before .before .before .before .before .before .before .before .before .before .before .before .before .before .before .args .g in
+    let g : Gathered = c .before .before .before .before .before .before .before .before .before .before .before .before .before .before .before .before .before .before .args .g in
     let r : Gathered = c .before .before .before .before .before .before .before .before .before .before .before .before .before .shortened .result in
     let e : r ≡ shortened g = c .before .before .before .before .before .before .before .before .before .before .before .before .before .shortened .ensures in
-    let q : model.Queue = abs (c .before .before .before .before .before .before .before .before .before .before .before .before .before .before .before .before .before .args .queue) in
-    let m : Memory = memory (now (c .before .before .before .before .before .before .before .before .before .before .before .before .before .before .before .before .before .args .one)) (now (c .before .before .before .before .before .before .before .before .before .before .before .before .before .before .before .before .before .args .two)) (now (c .before .before .before .before .before .before .before .before .before .before .before .before .before .before .before .before .before .args .pool)) in
-    let t : ℕ = c .before .before .before .before .before .before .before .before .before .before .before .before .before .before .before .before .before .args .token in
-    c .before .before .before .before .pop-used .ensures ∙ ap (λ (s : Gathered). popUsed q m t (listOf s)) e
+    let q : model.Queue = abs (c .before .before .before .before .before .before .before .before .before .before .before .before .before .before .before .before .before .before .args .chain .queue) in
+    let m : Memory = memory (now (c .before .before .before .before .before .before .before .before .before .before .before .before .before .before .before .before .before .before .args .one)) (now (c .before .before .before .before .before .before .before .before .before .before .before .before .before .before .before .before .before .before .args .two)) (now (c .before .before .before .before .before .before .before .before .before .before .before .before .before .before .before .before .before .before .args .pool)) in
+    c .before .before .before .before .pop-used .ensures ∙ ap (λ (s : Gathered). popUsed q m (c .before .before .before .before .before .before .before .before .before .before .before .before .before .before .before .before .before .before .args .chain .token) (listOf s)) e
 
 pub pop-used-gathered-spec : {M : Type 1} → statement M
 pop-used-gathered-spec =
