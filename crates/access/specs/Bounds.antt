@@ -5,21 +5,13 @@ use mathlib.Core.List.{List}
 use Prim.Native.Nat.{ℕ, suc, _+_, _*_, _%_, _≤_, _<_}
 use native.Mathlib.Nat.{mod-lt, mul-le-mul, mul-le-mul-left, mul-suc}
 use native.Mathlib.Omega.{arith}
-use Rattle.lists.specs.Tests.{by-test}
 use Rattle.lists.specs.Walk.{hop}
-use Rattle.rules.specs.Record.{Queue, nextOf, notedOf, isIndirect, sizeOf}
-use Rattle.rules.specs.Meaning.{WellFormed, Out}
-use Rattle.laws.specs.FreeLaws.{noted-used, hop-low}
+use Rattle.rules.specs.Record.{Queue, nextOf, sizeOf}
+use Rattle.rules.specs.Meaning.{Out}
+use Rattle.laws.specs.FreeLaws.{size-most, hop-low}
 use Rattle.views.specs.declared.Core.{Core}
 use Rattle.views.specs.Tables.{tablesOf, queueOf}
 use Rattle.tables.specs.Ready.{Ready, small, square}
-
--- a chain has at most n buffers
-size-most : (q : Queue) (h : ℕ) → WellFormed q → Out q h → sizeOf q h ≤ q .n
-size-most q h w o =
-    by-test (isIndirect q h)
-    (λ e. rw e (w .listed h o e .most))
-    (λ e. rw e (let a : notedOf q h ≤ q .counts .used = noted-used q w h (o .below) in let b : q .counts .used ≤ q .n = w .used in omega arith))
 
 -- slot h of n slots of n entries ends among their n * n
 slot-within : (n h i : ℕ) → h < n → i < n → n * h + i < n * n
@@ -46,7 +38,7 @@ module _ {c : Core} {r : ℕ} {words lens halves : List ℕ} {sides : List Bool}
   -- buffer i of an outstanding head: its number, and that of its list entry
   pub buffer-within : (h i : ℕ) → Out queue h → i < sizeOf queue h → (i < 64) × (c .n * h + i < c .n * c .n) × (c .n * h + i < r * r) × (c .n * h + i < 4096)
   buffer-within h i o l =
-      let m : sizeOf queue h ≤ c .n = size-most queue h (s .good .well) o in
+      let m : sizeOf queue h ≤ c .n = size-most queue (s .good .well) h o in
       let b : c .n * h + i < c .n * c .n = slot-within (c .n) h i (o .below) (omega arith) in
       let n : (0 < c .n) × (c .n ≤ 64) = small c r words lens halves sides s in
       let f : c .n * c .n ≤ 64 * 64 = mul-le-mul (n .1) (n .1) in

@@ -12,7 +12,7 @@ use Rattle.lists.specs.Tests.{by-test, and-left, and-right}
 use Rattle.virtio.specs.declared.Buffer.{Buffer}
 use Rattle.virtio.specs.Memory.{Memory}
 use Rattle.virtio.specs.Chain.{inOrder}
-use Rattle.rules.specs.Record.{Queue, notedOf, isIndirect, sizeOf, buffersOf, outstanding, isOpen, withCall}
+use Rattle.rules.specs.Record.{Queue, sizeOf, buffersOf, outstanding, isOpen, withCall}
 use Rattle.rules.specs.declared.Open.the-variants.{PopIdx}
 use Rattle.rules.specs.WellFormed.{wellFormed, noEmpty}
 use Rattle.rules.specs.Meaning.{WellFormed, Out}
@@ -20,7 +20,7 @@ use Rattle.rules.specs.Answer.{Outcome, unless, BadRecord, BadRegion, Busy, Inv
 use Rattle.rules.specs.Calls.{fits, badList, full, addOpened, opened, openAdd, openPop, callRefusal, matches, sameList}
 use Rattle.laws.specs.WellFormedIs.{well-formed-means, out-means}
 use Rattle.laws.specs.StepKeeps.{power-most}
-use Rattle.laws.specs.FreeLaws.{noted-used}
+use Rattle.laws.specs.FreeLaws.{size-most}
 use Rattle.laws.specs.Added.{size-length}
 use Rattle.laws.specs.OwnIs.{list-means}
 
@@ -56,9 +56,7 @@ module _ (q : Queue) where
   buffers-most e t o =
       let w : WellFormed q = well-formed-means q e in
       let n : q .n ≤ 64 = small e in
-      let u : q .counts .used ≤ q .n = w .used in
-      let c : notedOf q t ≤ q .counts .used = noted-used q w t (o .below) in
-      let k : sizeOf q t ≤ q .n = by-test (isIndirect q t) (λ i. rw i (w .listed t o i .most)) (λ i. rw i (omega arith)) in
+      let k : sizeOf q t ≤ q .n = size-most q w t o in
       let l : length (buffersOf q t) ≡ sizeOf q t = size-length q t in
       omega arith
 

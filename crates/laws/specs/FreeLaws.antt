@@ -17,7 +17,7 @@ use Rattle.lists.specs.WalkLaws.{hop-counted, hop-twice, hop-agree, walk-agree,
 use Rattle.lists.specs.Stores.{set-keeps, sets-outside, slots-apart}
 use Rattle.virtio.specs.declared.Desc.{Desc}
 use Rattle.virtio.specs.Desc.{noDesc, noBuffer, hasIndirect, bufferOf}
-use Rattle.rules.specs.Record.{Queue, descOf, nextOf, notedOf, freeCount, freeList, chainOf, lastOf, isIndirect, entriesOf, buffersOf}
+use Rattle.rules.specs.Record.{Queue, descOf, nextOf, notedOf, freeCount, freeList, chainOf, lastOf, isIndirect, entriesOf, sizeOf, buffersOf}
 use Rattle.rules.specs.WellFormed.{named}
 use Rattle.rules.specs.Meaning.{WellFormed, Out}
 use Rattle.rules.specs.Step.{emptied, emptyAll, freed}
@@ -106,6 +106,13 @@ module _ (q : Queue) (w : WellFormed q) where
       let l : notedOf q h ≤ length (walks (nextOf q) (notedOf q) (q .n) 0) = walks-longer (nextOf q) (notedOf q) (q .n) 0 h (omega arith) (omega arith) in
       let u : q .counts .used ≤ q .n = w .used in
       omega arith
+
+  -- a chain has at most n buffers: in the table that many descriptors are used, and a list has no more entries
+  pub size-most : (h : ℕ) → Out q h → sizeOf q h ≤ q .n
+  size-most h o =
+      let u : q .counts .used ≤ q .n = w .used in
+      let m : notedOf q h ≤ q .counts .used = noted-used h (o .below) in
+      by-test (isIndirect q h) (λ i. rw i (w .listed h o i .most)) (λ i. rw i (omega arith))
 
 module _ (q : Queue) (t : ℕ) (s : Held q) (w : WellFormed q) (o : Out q t) where
   -- the chain's last descriptor stands in it alone

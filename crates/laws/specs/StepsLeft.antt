@@ -13,14 +13,14 @@ use Rattle.lists.specs.PickLaws.{first-none, NoneOf}
 use Rattle.virtio.specs.Memory.{Memory}
 use Rattle.rules.specs.declared.Open.{Open}
 use Rattle.rules.specs.declared.Open.the-variants.{Idle, Add, PopIdx, PopId, PopLen, PopStore, PeekIdx, PeekId}
-use Rattle.rules.specs.Record.{Queue, notedOf, outstanding, isIndirect, sizeOf, freeCount, isOpen, withCall}
+use Rattle.rules.specs.Record.{Queue, notedOf, outstanding, isIndirect, freeCount, isOpen, withCall}
 use Rattle.rules.specs.WellFormed.{addSteps, storeSteps}
 use Rattle.rules.specs.Meaning.{WellFormed, Out, Named, Adding, Storing}
 use Rattle.rules.specs.Answer.{Outcome, unless, WrongToken, NotOutstanding, Mismatch}
 use Rattle.rules.specs.Step.{access, loaded, tokenOf, Reaction, verdict, storedCount, react, move}
 use Rattle.rules.specs.Calls.{stepRefusal, opened, moves, run}
 use Rattle.laws.specs.WellFormedIs.{out-means}
-use Rattle.laws.specs.FreeLaws.{noted-used}
+use Rattle.laws.specs.FreeLaws.{noted-used, size-most}
 use Rattle.laws.specs.StepKeeps.{one-most}
 use Rattle.laws.specs.CallKeeps.{Good, move-keeps}
 use Rattle.laws.specs.Runs.{move-at, onward, onward-steps, moves-closed, moves-open, steps-lesser}
@@ -51,13 +51,6 @@ pick-most true x y m f g = f refl
 pick-most false x y m f g = g refl
 
 module _ (q : Queue) (w : WellFormed q) where
-  -- a chain has at most n buffers, and its descriptors are at most n
-  size-most : (h : ℕ) → Out q h → sizeOf q h ≤ q .n
-  size-most h o =
-      let u : q .counts .used ≤ q .n = w .used in
-      let m : notedOf q h ≤ q .counts .used = noted-used q w h (o .below) in
-      pick-most (isIndirect q h) _ _ (q .n) (λ i. w .listed h o i .most) (λ i. omega arith)
-
   pub due-most : (t : ℕ) → storesDue q t ≤ q .n + 1
   due-most t =
       pick-most (outstanding q t) _ _ (q .n + 1)
@@ -70,7 +63,7 @@ module _ (q : Queue) (w : WellFormed q) where
 
   left-most : (c : Open) → Named q c → leftMost q c ≤ q .n + 4
   left-most Idle n = omega arith
-  left-most (Add h i) n = omega (arith, size-most h (n .head))
+  left-most (Add h i) n = omega (arith, size-most q w h (n .head))
   left-most (PopIdx t b) n = omega (arith, due-most t)
   left-most (PopId t b) n = omega (arith, due-most t)
   left-most (PopLen t b d) n = omega (arith, due-most t)
