@@ -23,8 +23,9 @@ use Rattle.wellformed.specs.Room.{Room}
 use Rattle.tables.specs.Ready.{Ready}
 use Rattle.laws.specs.Allowed.{call-allowed, add-allowed}
 use Rattle.refusals.specs.Checked.{Indices, ready, fitting}
-use Rattle.queue.specs.declared.Done.{Done}
-use Rattle.queue.specs.Outcomes.{doneOf, Going}
+use Rattle.asks.specs.declared.Done.{Done}
+use Rattle.asks.specs.Outcomes.{doneOf}
+use Rattle.queue.specs.Outcomes.{Going}
 use Rattle.queue.specs.Steps.{fitting-like}
 use Rattle.queue.specs.Opened.{add-opening, pop-opening, peek-opening}
 

@@ -1,4 +1,4 @@
--- The rules' outcome of what the code answers.
+-- The rules' outcome of a step, and what a call that was opened has.
 use mathlib.Core.Path.{_≡_}
 use mathlib.Core.Bool.{Bool}
 use mathlib.Core.List.{List}
@@ -9,10 +9,7 @@ use Rattle.rules.specs.Answer.{Outcome}
 use Rattle.views.specs.Tables.{queueOf}
 use Rattle.tables.specs.Ready.{Ready, Fitting}
 use Rattle.react.specs.declared.Reacted.{Reacted}
-use Rattle.queue.specs.declared.Done.{Done}
-
-abbrev pub doneOf : Done → Tables → Memory → Outcome
-doneOf r t m = record { answer = r .answer; value = r .value; steps = r .steps; queue = queueOf (r .core) t; memory = m }
+use Rattle.asks.specs.declared.Done.{Done}
 
 abbrev pub steppedOf : Reacted → Tables → Memory → Outcome
 steppedOf r t m = record { answer = r .answer; value = r .value; steps = 1; queue = queueOf (r .core) t; memory = m }

@@ -19,8 +19,9 @@ use Rattle.views.specs.Tables.{tablesOf, queueOf}
 use Rattle.tables.specs.Ready.{Ready, Fitting}
 use Rattle.react.specs.declared.Reacted.{Reacted}
 use Rattle.react.specs.Reactions.{reactedOf}
-use Rattle.queue.specs.declared.Done.{Done}
-use Rattle.queue.specs.Outcomes.{doneOf, steppedOf}
+use Rattle.asks.specs.declared.Done.{Done}
+use Rattle.asks.specs.Outcomes.{doneOf}
+use Rattle.queue.specs.Outcomes.{steppedOf}
 
 -- THE STEP: the access that the call makes next, done, and the reaction to the number that it gave
 pub step-is

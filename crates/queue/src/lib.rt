@@ -1,23 +1,20 @@
 // The queue's calls over lent words and bytes (document 01, "Rules of the calls", "Step by step", "When the queue says no"): refusals in their order,
-// openings, runs with a budget, whole calls, and calls of a single step. The record with its tables inside (crate record) lends them to these.
+// openings, runs with a budget, and whole calls; crate asks has those of a single step. The record with its tables inside (crate record) lends them to these.
 ghost use mathlib.Core.Path.{_≡_};
-ghost use mathlib.Core.Bool.{cond};
 ghost use Prim.Native.Nat.{_+_, _<_, _^_};
-ghost use Rattle.lists.specs.Pick.{one-if};
 ghost use Rattle.rules.specs.Step.{move};
-ghost use Rattle.rules.specs.Calls.{openAdd, openPop, openPeek, moves as movesIs, run as runIs, whole, add as addIs, popUsed, peekUsed, canPop, shouldNotify, setDevNotify, opened as openedIs};
+ghost use Rattle.rules.specs.Calls.{openAdd, openPop, openPeek, moves as movesIs, run as runIs, whole, add as addIs, popUsed, peekUsed, opened as openedIs};
 ghost use Rattle.views.specs.Tables.{tablesOf, queueOf};
 ghost use Rattle.wellformed.specs.Room.{Room};
 ghost use Rattle.tables.specs.Ready.{Ready, Fitting};
 ghost use Rattle.access.specs.Accesses.{memory};
 ghost use Rattle.opens.specs.Given.{given};
-ghost use Rattle.queue.specs.Outcomes.{doneOf, steppedOf, Going};
-use access::load_used16;
+ghost use Rattle.asks.specs.Outcomes.{doneOf};
+ghost use Rattle.queue.specs.Outcomes.{steppedOf, Going};
 use access::next_access;
 use access::perform;
-use fields::store16;
-use indices::after;
-use layout::avail_at;
+use asks::Done;
+use asks::unmoved;
 use opens::matches;
 use opens::open_add as opens_add;
 use react::Reacted;
@@ -30,26 +27,6 @@ use refusals::is_open;
 use refusals::step_refusal;
 use rules::Open;
 use views::Core;
-
-// What a call answers: the number, the value, how many loads and stores were made; and the plain fields after it.
-pub struct Done {
-    pub core: Core,
-    pub answer: u8,
-    pub value: u32,
-    pub steps: u32,
-}
-
-// An answer before any access: a refusal by its number, or 0 for a call that was opened.
-fn unmoved(core: Core, answer: u8) -> Done
-    ensures { λ r. ⌜ r ≡ record { core = core; answer = answer; value = 0; steps = 0 } ⌝ }
-{
-    Done {
-        core,
-        answer,
-        value: 0,
-        steps: 0,
-    }
-}
 
 // ---- openings
 
@@ -361,115 +338,4 @@ pub fn peek_used(
 {
     let o = open_peek(c, room, words, lens, halves, sides, one, two, pool);
     finish(c.n, o, room, words, lens, halves, sides, one, two, pool)
-}
-
-// ---- calls of a single step
-
-// What a call of a single step, or of none, answers.
-fn answered(core: Core, steps: u32, value: u32) -> Done
-    ensures { λ r. ⌜ r ≡ record { core = core; answer = 0; value = value; steps = steps } ⌝ }
-{
-    Done {
-        core,
-        answer: 0,
-        value,
-        steps,
-    }
-}
-
-// 1 for true.
-fn one_if(b: bool) -> u32
-    ensures { λ r. ⌜ r ≡ one-if b ⌝ }
-{
-    if b { 1 } else { 0 }
-}
-
-// Whether the device has given back a chain: the value is 1 or 0.
-pub fn can_pop<'a>(
-    c: Core,
-    room: usize,
-    words: &[u64],
-    lens: &[u32],
-    halves: &[u16],
-    sides: &[bool],
-    one: &'a [u8],
-    two: &'a [u8],
-    pool: &[u8],
-) -> Done
-    requires { ⌜ Room c room (now words) (now lens) (now halves) (now sides) ⌝ }
-    ensures { λ r. ⌜ doneOf r (tablesOf room (now (words .entry)) (now (lens .entry)) (now (halves .entry)) (now (sides .entry))) (memory (now (one .entry)) (now (two .entry)) (now (pool .entry))) ≡ canPop (queueOf c (tablesOf room (now (words .entry)) (now (lens .entry)) (now (halves .entry)) (now (sides .entry)))) (memory (now (one .entry)) (now (two .entry)) (now (pool .entry))) ⌝ }
-{
-    let fit = fits(c, one.len(), two.len(), pool.len());
-    let number = call_refusal(c, room, words, lens, halves, sides, fit);
-    if number != 0 {
-        return unmoved(c, number);
-    }
-    let idx = load_used16(c, one, two, 2);
-    answered(c, 1, one_if(idx != c.last_used_idx))
-}
-
-// Whether the device asks to be notified: the value is 1 or 0.
-pub fn should_notify<'a>(
-    c: Core,
-    room: usize,
-    words: &[u64],
-    lens: &[u32],
-    halves: &[u16],
-    sides: &[bool],
-    one: &'a [u8],
-    two: &'a [u8],
-    pool: &[u8],
-) -> Done
-    requires { ⌜ Room c room (now words) (now lens) (now halves) (now sides) ⌝ }
-    ensures { λ r. ⌜ doneOf r (tablesOf room (now (words .entry)) (now (lens .entry)) (now (halves .entry)) (now (sides .entry))) (memory (now (one .entry)) (now (two .entry)) (now (pool .entry))) ≡ shouldNotify (queueOf c (tablesOf room (now (words .entry)) (now (lens .entry)) (now (halves .entry)) (now (sides .entry)))) (memory (now (one .entry)) (now (two .entry)) (now (pool .entry))) ⌝ }
-{
-    let fit = fits(c, one.len(), two.len(), pool.len());
-    let number = call_refusal(c, room, words, lens, halves, sides, fit);
-    if number != 0 {
-        return unmoved(c, number);
-    }
-    let modes = c.modes;
-    if modes.event_idx {
-        let event = load_used16(c, one, two, 4 + 8 * (c.n as usize));
-        answered(c, 1, one_if(after(event) <= c.avail_idx))
-    } else {
-        let flags = load_used16(c, one, two, 0);
-        answered(c, 1, one_if(flags % 2 == 0))
-    }
-}
-
-// Tells the device whether to notify; nothing is stored with event indices.
-pub fn set_dev_notify(
-    c: Core,
-    room: usize,
-    words: &[u64],
-    lens: &[u32],
-    halves: &[u16],
-    sides: &[bool],
-    wanted: bool,
-    one: &mut [u8],
-    two: &[u8],
-    pool: &[u8],
-) -> Done
-    requires { ⌜ Room c room (now words) (now lens) (now halves) (now sides) ⌝ }
-    ensures { λ r. ⌜ doneOf r (tablesOf room (now (words .entry)) (now (lens .entry)) (now (halves .entry)) (now (sides .entry))) (memory (now (one .exit)) (now (two .entry)) (now (pool .entry))) ≡ setDevNotify (queueOf c (tablesOf room (now (words .entry)) (now (lens .entry)) (now (halves .entry)) (now (sides .entry)))) (memory (now (one .entry)) (now (two .entry)) (now (pool .entry))) wanted ⌝ }
-{
-    let fit = fits(c, one.len(), two.len(), pool.len());
-    let number = call_refusal(c, room, words, lens, halves, sides, fit);
-    if number != 0 {
-        return unmoved(c, number);
-    }
-    let modes = c.modes;
-    if modes.event_idx {
-        return answered(c, 0, 0);
-    }
-    store16(one, avail_at(c.n), not_wanted(wanted));
-    answered(c, 1, 0)
-}
-
-// The available ring's flags: 1 asks the device to leave notifications.
-fn not_wanted(wanted: bool) -> u16
-    ensures { λ r. ⌜ r ≡ cond wanted 0 1 ⌝ }
-{
-    if wanted { 0 } else { 1 }
 }

@@ -1,5 +1,5 @@
 // The calls that add, pop, peek, run and notify (document 01, "Rules of the calls" and "Step by step"), as methods of the record: each copies the tables
-// out, lends them to crate queue, and answers the record with what they then hold.
+// out, lends them to crates queue and asks, and answers the record with what they then hold.
 ghost use mathlib.Core.Path.{_≡_};
 ghost use Rattle.rules.specs.Calls.{openAdd, openPop, openPeek, run as runIs, step as stepIs, add as addIs, popUsed, peekUsed, canPop, shouldNotify, setDevNotify};
 ghost use Rattle.opens.specs.Given.{given};
@@ -318,7 +318,7 @@ impl Queue {
         let lens = self.lens;
         let halves = self.halves;
         let sides = self.sides;
-        let done = queue::can_pop(core, 64, &words, &lens, &halves, &sides, one, two, pool);
+        let done = asks::can_pop(core, 64, &words, &lens, &halves, &sides, one, two, pool);
         let core = done.core;
         Answer {
             answer: done.answer,
@@ -343,7 +343,7 @@ impl Queue {
         let lens = self.lens;
         let halves = self.halves;
         let sides = self.sides;
-        let done = queue::should_notify(core, 64, &words, &lens, &halves, &sides, one, two, pool);
+        let done = asks::should_notify(core, 64, &words, &lens, &halves, &sides, one, two, pool);
         let core = done.core;
         Answer {
             answer: done.answer,
@@ -368,7 +368,7 @@ impl Queue {
         let lens = self.lens;
         let halves = self.halves;
         let sides = self.sides;
-        let done = queue::set_dev_notify(
+        let done = asks::set_dev_notify(
             core,
             64,
             &words,

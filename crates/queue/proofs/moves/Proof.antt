@@ -11,7 +11,7 @@ use Rattle.rules.specs.Calls.{opened, moves}
 use Rattle.views.specs.Tables.{tablesOf, queueOf}
 use Rattle.tables.specs.Ready.{Ready, Fitting}
 use Rattle.access.specs.Accesses.{memory}
-use Rattle.queue.specs.Outcomes.{doneOf}
+use Rattle.asks.specs.Outcomes.{doneOf}
 use Rattle.queue.specs.Steps.{Running, Kept, ready-on, fitting-on, run-turn, run-closed, run-over}
 use Rattle.queue.proofs.moves.Statement.{statement}
 use Rattle.queue.proofs.moves.Tie as tie

@@ -14,8 +14,9 @@ use Rattle.tables.specs.Ready.{Ready}
 use Rattle.opens.specs.Given.{given}
 use Rattle.rules.specs.Calls.{addTests}
 use Rattle.refusals.specs.Checked.{Indices, ready}
-use Rattle.queue.specs.Outcomes.{doneOf}
-use Rattle.queue.specs.Opened.{says-no, says-yes, add-opening}
+use Rattle.asks.specs.Outcomes.{doneOf}
+use Rattle.asks.specs.Refused.{says-no, says-yes}
+use Rattle.queue.specs.Opened.{add-opening}
 use Rattle.laws.specs.Allowed.{add-allowed}
 use borrow.Author.Needs.{needs}
 use Rattle.queue.proofs.open_add.Statement.{statement}

@@ -10,8 +10,9 @@ use Rattle.rules.specs.declared.Open.the-variants.{PeekIdx}
 use Rattle.rules.specs.Record.{Queue, withCall}
 use Rattle.rules.specs.Calls.{callRefusal, opened}
 use Rattle.rules.specs.Calls.{callTests}
-use Rattle.queue.specs.Outcomes.{doneOf}
-use Rattle.queue.specs.Opened.{says-no, says-yes, peek-opening}
+use Rattle.asks.specs.Outcomes.{doneOf}
+use Rattle.asks.specs.Refused.{says-no, says-yes}
+use Rattle.queue.specs.Opened.{peek-opening}
 use borrow.Author.Needs.{needs}
 use Rattle.queue.proofs.open_peek.Statement.{statement}
 use Rattle.queue.proofs.open_peek.Tie as tie

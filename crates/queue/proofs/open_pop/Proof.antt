@@ -16,8 +16,9 @@ use Rattle.opens.specs.Given.{given}
 use Rattle.rules.specs.Calls.{callTests}
 use Rattle.laws.specs.Allowed.{call-allowed}
 use Rattle.refusals.specs.Checked.{Indices, ready}
-use Rattle.queue.specs.Outcomes.{doneOf}
-use Rattle.queue.specs.Opened.{says-no, says-yes, pop-opening}
+use Rattle.asks.specs.Outcomes.{doneOf}
+use Rattle.asks.specs.Refused.{says-no, says-yes}
+use Rattle.queue.specs.Opened.{pop-opening}
 use borrow.Author.Needs.{needs}
 use Rattle.queue.proofs.open_pop.Statement.{statement}
 use Rattle.queue.proofs.open_pop.Tie as tie

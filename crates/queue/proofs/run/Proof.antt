@@ -10,7 +10,8 @@ use Rattle.rules.specs.Calls.{fits, stepRefusal, opened, moves}
 use Rattle.rules.specs.Calls.{stepTests}
 use Rattle.laws.specs.Allowed.{step-allowed}
 use Rattle.refusals.specs.Checked.{Indices, ready, fitting}
-use Rattle.queue.specs.Opened.{says-no, says-yes, run-opening}
+use Rattle.asks.specs.Refused.{says-no, says-yes}
+use Rattle.queue.specs.Opened.{run-opening}
 use borrow.Author.Needs.{needs}
 use Rattle.queue.proofs.run.Statement.{statement}
 use Rattle.queue.proofs.run.Tie as tie

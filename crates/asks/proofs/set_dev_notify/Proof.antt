@@ -1,4 +1,4 @@
--- `queue::set_dev_notify` meets its contract: refused, or with event indices nothing, else one store of the flags.
+-- `asks::set_dev_notify` meets its contract: refused, or with event indices nothing, else one store of the flags.
 use mathlib.Core.Path.{_≡_, ap, _∙_}
 use native.Mathlib.Omega.{arith}
 use denote.Ref.{now}
@@ -12,9 +12,9 @@ use Rattle.tables.specs.Ready.{Fitting}
 use Rattle.rules.specs.Calls.{callTests}
 use Rattle.access.specs.Accesses.{memory}
 use Rattle.virtio.specs.Sizes.{front-inside}
-use Rattle.queue.specs.Singles.{regions, set-dev-notify-no, flags-left, flags-stored}
-use Rattle.queue.proofs.set_dev_notify.Statement.{statement}
-use Rattle.queue.proofs.set_dev_notify.Tie as tie
+use Rattle.asks.specs.Singles.{regions, set-dev-notify-no, flags-left, flags-stored}
+use Rattle.asks.proofs.set_dev_notify.Statement.{statement}
+use Rattle.asks.proofs.set_dev_notify.Tie as tie
 
 -- the record and the memory as they are lent
 abbrev record-of : tie.Start → Queue

@@ -1,4 +1,4 @@
--- `queue::can_pop` meets its contract: refused, or one load of the used ring's idx.
+-- `asks::can_pop` meets its contract: refused, or one load of the used ring's idx.
 use mathlib.Core.Path.{_≡_, ap, _∙_}
 use native.Mathlib.Omega.{arith}
 use denote.Ref.{now}
@@ -11,9 +11,9 @@ use Rattle.views.specs.Tables.{tablesOf, queueOf}
 use Rattle.tables.specs.Ready.{Fitting}
 use Rattle.rules.specs.Calls.{callTests}
 use Rattle.access.specs.Accesses.{memory}
-use Rattle.queue.specs.Singles.{regions, can-pop-no, can-pop-yes}
-use Rattle.queue.proofs.can_pop.Statement.{statement}
-use Rattle.queue.proofs.can_pop.Tie as tie
+use Rattle.asks.specs.Singles.{regions, can-pop-no, can-pop-yes}
+use Rattle.asks.proofs.can_pop.Statement.{statement}
+use Rattle.asks.proofs.can_pop.Tie as tie
 
 -- the record and the memory as they are lent
 abbrev record-of : tie.Start → Queue

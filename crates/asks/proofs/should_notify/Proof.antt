@@ -1,4 +1,4 @@
--- `queue::should_notify` meets its contract: refused, or one load of the event index or of the flags.
+-- `asks::should_notify` meets its contract: refused, or one load of the event index or of the flags.
 use mathlib.Core.Path.{_≡_, ap, _∙_}
 use native.Mathlib.Omega.{arith}
 use denote.Ref.{now}
@@ -12,9 +12,9 @@ use Rattle.views.specs.Tables.{tablesOf, queueOf}
 use Rattle.tables.specs.Ready.{Fitting}
 use Rattle.rules.specs.Calls.{callTests}
 use Rattle.access.specs.Accesses.{memory}
-use Rattle.queue.specs.Singles.{regions, should-notify-no, by-event, by-flags}
-use Rattle.queue.proofs.should_notify.Statement.{statement}
-use Rattle.queue.proofs.should_notify.Tie as tie
+use Rattle.asks.specs.Singles.{regions, should-notify-no, by-event, by-flags}
+use Rattle.asks.proofs.should_notify.Statement.{statement}
+use Rattle.asks.proofs.should_notify.Tie as tie
 
 -- the record and the memory as they are lent
 abbrev record-of : tie.Start → Queue

@@ -18,9 +18,9 @@ use Rattle.tables.specs.Ready.{Fitting}
 use Rattle.laws.specs.Allowed.{call-allowed}
 use Rattle.refusals.specs.Checked.{fitting}
 use Rattle.access.specs.Accesses.{memory}
-use Rattle.queue.specs.declared.Done.{Done}
-use Rattle.queue.specs.Outcomes.{doneOf}
-use Rattle.queue.specs.Opened.{says-no, says-yes}
+use Rattle.asks.specs.declared.Done.{Done}
+use Rattle.asks.specs.Outcomes.{doneOf}
+use Rattle.asks.specs.Refused.{says-no, says-yes}
 
 -- x is the number of the refusal, and further down r what the code answers
 module _ (c : Core) (t : Tables) (m : Memory) (x : ℕ) (e : x ≡ callRefusal (queueOf c t) m) where
