@@ -223,9 +223,16 @@ fn take(
     done.queue
 }
 
-fn too_many(queue: Queue, block: Buffer, one: &mut [u8], two: &[u8], pool: &mut [u8]) {
-    let opened = open_add_many(queue, [block; 66], one, two, pool);
+// Lists that no queue takes, for their number; and one of them for its order too, which is tried before.
+fn too_many(queue: Queue, request: Request, one: &mut [u8], two: &[u8], pool: &mut [u8]) {
+    let header = request.header;
+    let block = request.block;
+    let mut list = [block; 66];
+    let opened = open_add_many(queue, list, one, two, pool);
     report(b"add of 66 buffers, opened", opened);
+    list[65] = header;
+    let opened = open_add_many(queue, list, one, two, pool);
+    report(b"add of 66 buffers, an input last, opened", opened);
 }
 
 // Has the request back, with a list that no queue takes tried before and after.
@@ -233,7 +240,7 @@ fn finish(sent: Answer, request: Request, one: &mut [u8], two: &[u8], pool: &mut
     let block = request.block;
     let queue = mistake(sent.queue, sent.value, block, one, two, pool);
     let queue = take(queue, sent.value, request, one, two, pool);
-    too_many(queue, block, one, two, pool);
+    too_many(queue, request, one, two, pool);
 }
 
 fn main() {
