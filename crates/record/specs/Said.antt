@@ -32,24 +32,23 @@ abbrev pub Fits : List ℕ → List ℕ → Type 0
 Fits addrs sizes = ((i : ℕ) → getD addrs i 0 < 2 ^ 64) × ((i : ℕ) → getD sizes i 0 < 2 ^ 32)
 
 -- so the buffers of a caller's list fit their fields
-given-narrow : (addrs sizes outs : List ℕ) → Fits addrs sizes → AllNarrow (given addrs sizes outs)
+pub given-narrow : (addrs sizes outs : List ℕ) → Fits addrs sizes → AllNarrow (given addrs sizes outs)
 unfolding given
 given-narrow addrs sizes outs f i b =
     let n : length (given addrs sizes outs) ≡ length addrs = given-length addrs sizes outs in
     subst Narrow (sym (getD-rising (bufferIn addrs sizes outs) noBuffer (length addrs) 0 i (omega arith))) (record { addr = f .0 (0 + i); len = f .1 (0 + i) })
 
 module _ (q : Queue) (a : Arrays q) (i : Indices (q .core)) (w : wellFormed (abs q) ≡ true) (r : Answer) (m m′ : Memory) where
-  -- THE LAW of an add that is answered 0: the memory that it leaves is read, by VIRTIO's rules, as the list given
+  -- THE LAW of an add that is answered 0: the memory that it leaves is read, by VIRTIO's rules, as the list given, whose buffers fit their fields
   pub add-published
-      : (addrs sizes outs : List ℕ)
-      → Fits addrs sizes
-      → answerOf r m′ ≡ add (abs q) m (given addrs sizes outs)
+      : (bs : List Buffer)
+      → AllNarrow bs
+      → answerOf r m′ ≡ add (abs q) m bs
       → r .answer ≡ 0
-      → Reads (q .core .modes .legacy) (q .core .n) (q .core .base) m′ (q .core .«avail_idx») (q .core .«free_head») (given addrs sizes outs)
-  add-published addrs sizes outs f e z =
-      let bs : List Buffer = given addrs sizes outs in
+      → Reads (q .core .modes .legacy) (q .core .n) (q .core .base) m′ (q .core .«avail_idx») (q .core .«free_head») bs
+  add-published bs f e z =
       let n : addRefusal (abs q) m bs ≡ 0 = by-eq (addRefusal (abs q) m bs) 0 (λ y. y) (λ y. absurd (y (sym (ap (λ (o : Outcome). o .answer) (add-refused (abs q) m bs y)) ∙ sym (ap (λ (o : Outcome). o .answer) e) ∙ z))) in
-      subst (λ x. Reads (q .core .modes .legacy) (q .core .n) (q .core .base) x (q .core .«avail_idx») (q .core .«free_head») bs) (sym (ap (λ (o : Outcome). o .memory) e)) (add-publishes (abs q) m bs (good-of q a i w) n (given-narrow addrs sizes outs f))
+      subst (λ x. Reads (q .core .modes .legacy) (q .core .n) (q .core .base) x (q .core .«avail_idx») (q .core .«free_head») bs) (sym (ap (λ (o : Outcome). o .memory) e)) (add-publishes (abs q) m bs (good-of q a i w) n f)
 
   -- THE LAW of a pop: refused, with record and memory as they were, or the token's chain freed and nothing else
   pub pop-freed : (t : ℕ) (bs : List Buffer) → answerOf r m′ ≡ popUsed (abs q) m t bs → Refuses (abs q) m (answerOf r m′) ⊎ Frees (abs q) t bs (answerOf r m′)
