@@ -354,6 +354,11 @@ GROUPS = (
 )
 
 if __name__ == "__main__":
+    names = [group.__name__ for group in GROUPS]
+    unknown = [name for name in sys.argv[1:] if name not in names]
+    if unknown:
+        print("cases: there is no group", *unknown, "among", *names, file=sys.stderr)
+        sys.exit(2)
     for group in GROUPS:
         if len(sys.argv) == 1 or group.__name__ in sys.argv:
             print(group.__name__.replace("_", " "))

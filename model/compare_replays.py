@@ -7,6 +7,7 @@ import argparse
 import os
 import random
 import re
+import shutil
 import subprocess
 import sys
 
@@ -166,6 +167,9 @@ def main():
     parser.add_argument("--seed", default="1")
     parser.add_argument("--count", type=int, default=800)
     args = parser.parse_args()
+    if not shutil.which(args.program):
+        print(f"compare_replays: there is no program {args.program}; ./replay builds it, or name another", file=sys.stderr)
+        sys.exit(2)
     for turn in range(args.count):
         rng = random.Random(f"{args.seed} {turn}")
         text = Maker(rng).make()

@@ -174,6 +174,9 @@ as_a_user() {
     fi
     cat "$cases/worked.expected" "$cases/id_letters.expected" "$cases/worked.expected" >"$folder/want"
     outputs "./replay with several files" ./replay "a b.replay" wrong "$folder/user/a b.replay"
+    echo "usage: replay [FILE...] (standard input where no file is named; docs/REPLAYS.md describes the format)" >"$folder/want"
+    outputs "./replay --help" ./replay --help
+    outputs "./replay -h" ./replay -h
     user_errors
 }
 

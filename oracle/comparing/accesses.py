@@ -285,4 +285,4 @@ def jobs(ours, traced, seed, count):
     """Short ones first; a seed or a count asks for random ones only."""
     if seed is None and count is None:
         yield from short_jobs(ours, traced)
-    yield from ((random_job, ours, traced, seed or 0, index) for index in range(count or COUNT))
+    yield from ((random_job, ours, traced, seed or 0, index) for index in range(COUNT if count is None else count))

@@ -208,7 +208,7 @@ fn load_used32<'a>(c: Core, one: &'a [u8], two: &'a [u8], at: usize) -> u32
     load32(used_ring(one, two, modes.legacy, c.n), at)
 }
 
-// Does it, and answers the number that was loaded, 0 for a store.
+// Does the access, and answers the number that was loaded, 0 for a store.
 pub fn perform(c: Core, a: Access, one: &mut [u8], two: &[u8], pool: &mut [u8]) -> u32
     requires { ⌜ Within c a ⌝ }
     requires { ⌜ Fitting c (now one) (now two) (now pool) ⌝ }

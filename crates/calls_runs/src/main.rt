@@ -312,7 +312,7 @@ fn script_room() -> [u8; 1048576]
     [0; 1048576]
 }
 
-// The legacy layout of 64 needs 12,288 bytes of region one, and its pool 65,536.
+// No queue needs more than one of these large buffers has: 65,536 bytes, for the pool of 64; region one needs 8,192 at most, in the legacy layout.
 fn main() {
     let mut src = script_room();
     let mut one = io::large_buffer();

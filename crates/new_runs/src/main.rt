@@ -115,7 +115,8 @@ fn ask(n: u32, legacy: bool, indirect: bool) -> Ask {
     }
 }
 
-// A size, a layout and a mode: good, with event indices too, and each region one byte longer or shorter than needed.
+// A size, a layout and a mode: good, with event indices too; region one a byte longer, and each region and the pool a byte shorter than needed; and
+// each base off its page and at the top of the address space.
 fn memory_runs(n: u16, legacy: bool, indirect: bool) {
     let a = ask(n as u32, legacy, indirect);
     let need = needed(n, legacy, indirect);
