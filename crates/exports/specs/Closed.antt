@@ -1,4 +1,4 @@
--- Why a record with no field for the open call loses nothing: new, add and pop_used, whole, leave none open where none was.
+-- Why a record with no field for the open call loses nothing: new, add, pop_used and peek_used, whole, leave none open where none was.
 use mathlib.Core.Path.{_≡_, refl, sym, ap, _∙_}
 use mathlib.Core.Bool.{Bool, true, false, cond, false≢true}
 use mathlib.Core.List.{List}
@@ -16,10 +16,10 @@ use Rattle.rules.specs.WellFormed.{wellFormed}
 use Rattle.rules.specs.Answer.{Outcome}
 use Rattle.rules.specs.New as rule
 use Rattle.rules.specs.New.{newRefusal, made, notMade, new}
-use Rattle.rules.specs.Calls.{fits, addRefusal, callRefusal, add, popUsed}
+use Rattle.rules.specs.Calls.{fits, addRefusal, callRefusal, add, popUsed, peekUsed}
 use Rattle.laws.specs.Allowed.{add-allowed, call-allowed}
 use Rattle.laws.specs.CallKeeps.{Good}
-use Rattle.laws.specs.Whole.{add-refused, pop-refused, add-closes, pop-closes}
+use Rattle.laws.specs.Whole.{add-refused, pop-refused, peek-refused, add-closes, pop-closes, peek-closes}
 use Rattle.views.specs.declared.Core.{Core}
 use Rattle.refusals.specs.Checked.{Indices}
 use Rattle.record.specs.declared.Queue.{Queue}
@@ -83,6 +83,12 @@ module _ (q : model.Queue) (m : Memory) (good : wellFormed q ≡ true → Good q
       (λ z. not-open _ (pop-closes q m (good (call-allowed q (fits q m) z .well)) t bs z))
       (λ z. ap (λ (o : Outcome). o .queue .call) (pop-refused q m t bs z) ∙ idle)
 
+  peek-idle : peekUsed q m .queue .call ≡ Idle
+  peek-idle =
+      by-eq (callRefusal q m) 0
+      (λ z. not-open _ (peek-closes q m (good (call-allowed q (fits q m) z .well)) z))
+      (λ z. ap (λ (o : Outcome). o .queue .call) (peek-refused q m z) ∙ idle)
+
 either-idle : (t : Bool) (a b : rule.Made) → a .queue .call ≡ Idle → b .queue .call ≡ Idle → cond t a b .queue .call ≡ Idle
 either-idle true a b x y = x
 either-idle false a b x y = y
@@ -112,6 +118,23 @@ module _
     pop-back t bs e =
         back (popUsed (abs before) m t bs) (e ∙ ap (λ (k : Queue). popUsed (abs k) m t bs) got) (pop-idle (abs before) m (good-of before a i) idle t bs)
 
+    pub peek-back : answerOf r m′ ≡ peekUsed (abs q) m → answerOf (with-queue r after) m′ ≡ peekUsed (abs before) m
+    peek-back e =
+        back (peekUsed (abs before) m) (e ∙ ap (λ (k : Queue). peekUsed (abs k) m) got) (peek-idle (abs before) m (good-of before a i) idle)
+
 pub new-back : (k : rule.Ask) (r : Made) (after : Queue) (m m′ : Memory) → after ≡ queueOf (flatOf (r .queue)) → madeOf r m′ ≡ new k m → madeOf (made-with r after) m′ ≡ new k m
 new-back k r after m m′ handed e =
     ap (λ (q : Queue). madeOf (made-with r q) m′) (handed ∙ queue-back (r .queue) (ap (λ (x : rule.Made). x .queue .call) e ∙ new-idle k m)) ∙ e
+
+-- of the calls that leave the record as it is
+pub asked-back
+    : (before q : Queue) (r : Answer) (after : Queue) (m′ : Memory) (o : Queue → Outcome)
+    → ((k : Queue) → o k .queue ≡ abs k)
+    → before .core .call ≡ Idle
+    → q ≡ before
+    → after ≡ queueOf (flatOf (r .queue))
+    → answerOf r m′ ≡ o q
+    → answerOf (with-queue r after) m′ ≡ o before
+asked-back before q r after m′ o leaves idle got handed e =
+    ap (λ (k : Queue). answerOf (with-queue r k) m′) handed
+    ∙ answer-back r m′ (o before) (e ∙ ap o got) (ap (λ (k : model.Queue). k .call) (leaves before) ∙ idle)

@@ -1,7 +1,7 @@
-// The queue for programs in C and Rust: new, add and pop_used as exported functions, over a record by value and over tables that the caller lends.
+// The queue for programs in C and Rust: new, add, pop_used and peek_used as exported functions, over a record by value and over tables that the caller lends.
 // Their record has no field for the open call, since whole calls leave none open.
 ghost use mathlib.Core.Path.{_≡_};
-ghost use Rattle.rules.specs.Calls.{add as addIs, popUsed};
+ghost use Rattle.rules.specs.Calls.{add as addIs, popUsed, peekUsed};
 ghost use Rattle.rules.specs.New.{new as newIs};
 ghost use Rattle.opens.specs.Given.{given};
 ghost use Rattle.access.specs.Accesses.{memory};
@@ -13,6 +13,8 @@ use record::Queue;
 use rules::Modes;
 use rules::Open;
 use views::Core;
+
+mod single;
 
 // The record's fields beside its tables and the open call.
 #[repr(C)]
@@ -239,6 +241,27 @@ pub extern "C" fn mayketura_pop_used(
     }
 }
 
+// record's peek_used.
+#[no_mangle]
+pub extern "C" fn mayketura_peek_used(
+    q: Flat,
+    one: &mut [u8],
+    two: &[u8],
+    pool: &mut [u8],
+) -> FlatAnswer
+    ensures { λ r. ⌜ answerOf (answerIs r) (memory (now (one .exit)) (now (two .entry)) (now (pool .exit))) ≡ peekUsed (abs (queueOf q)) (memory (now (one .entry)) (now (two .entry)) (now (pool .entry))) ⌝ }
+{
+    let queue = queue_of(q);
+    let done = queue.peek_used(one, two, pool);
+    let after = flat_of(done.queue);
+    FlatAnswer {
+        answer: done.answer,
+        value: done.value,
+        steps: done.steps,
+        queue: after,
+    }
+}
+
 // ---- the record's tables lent
 
 // queue's add, over tables at the limit.
@@ -316,6 +339,31 @@ pub extern "C" fn mayketura_pop_used_lent(
         two,
         pool,
     );
+    let plain = plain_of(done.core);
+    LentAnswer {
+        answer: done.answer,
+        value: done.value,
+        steps: done.steps,
+        plain,
+    }
+}
+
+// queue's peek_used, over tables at the limit.
+#[no_mangle]
+pub extern "C" fn mayketura_peek_used_lent(
+    p: Plain,
+    words: &mut [u64; 4160],
+    lens: &mut [u32; 4160],
+    halves: &mut [u16; 192],
+    sides: &mut [bool; 4096],
+    one: &mut [u8],
+    two: &[u8],
+    pool: &mut [u8],
+) -> LentAnswer
+    ensures { λ r. ⌜ answerOf (lentIs r (now (words .exit)) (now (lens .exit)) (now (halves .exit)) (now (sides .exit))) (memory (now (one .exit)) (now (two .entry)) (now (pool .exit))) ≡ peekUsed (abs (lentOf p (now (words .entry)) (now (lens .entry)) (now (halves .entry)) (now (sides .entry)))) (memory (now (one .entry)) (now (two .entry)) (now (pool .entry))) ⌝ }
+{
+    let core = core_of(p);
+    let done = queue::peek_used(core, 64, words, lens, halves, sides, one, two, pool);
     let plain = plain_of(done.core);
     LentAnswer {
         answer: done.answer,
