@@ -55,7 +55,7 @@ use Rattle.record.proofs.Answer.Laws as R′
 use Rattle.buffers.proofs.Gathered as B
 use Rattle.buffers.proofs.Gathered.Laws as B′
 use Rattle.buffers.proofs.Calls.{gathers}
-use Rattle.buffers.proofs.Parts.{slice-val, Listing, Reading, Writing, own-list, own-read, own-write, answer-typed, only-lasts}
+use Rattle.buffers.proofs.Parts.{slice-val, Listing, Reading, Writing, own-read, own-write, answer-typed, only-lasts}
 use Rattle.buffers.proofs.gather as gather
 use Rattle.buffers.proofs.gather.Symbol.{name as #gather}
 

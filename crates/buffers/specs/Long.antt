@@ -1,51 +1,43 @@
 -- A list of more than 64 buffers, which no queue takes: of all that it holds, a call asks only whether its buffers are in order.
-use mathlib.Core.Path.{_≡_, refl, sym, ap, _∙_}
-use mathlib.Core.Bool.{Bool, true, false, not, _||_, _&&_}
-use mathlib.Core.List.{List, [], _∷_}
-use Prim.Native.Nat.{ℕ, _+_, _≤_, _<_}
+use mathlib.Core.Path.{_≡_, sym, ap, _∙_}
+use mathlib.Core.Bool.{true, false, not}
+use mathlib.Core.List.{List}
+use Prim.Native.Nat.{ℕ, _≤_, _<_}
 use native.Mathlib.Omega.{arith}
-use borrow.Author.Tests.{eqb-false, ne-eqb, lt-ltb, ltb-true, not-false}
+use borrow.Author.Tests.{ne-eqb, lt-ltb}
 use lib.Dec.{ltb, eqb}
 use lib.ListN.{length}
-use Rattle.lists.specs.Pick.{Test, _when_, first}
 use Rattle.lists.specs.Tests.{by-test, and-left, and-right}
 use Rattle.virtio.specs.declared.Buffer.{Buffer}
 use Rattle.virtio.specs.Memory.{Memory}
 use Rattle.virtio.specs.Chain.{inOrder}
 use Rattle.rules.specs.Record.{Queue, sizeOf, buffersOf, outstanding, isOpen, withCall}
 use Rattle.rules.specs.declared.Open.the-variants.{PopIdx}
-use Rattle.rules.specs.WellFormed.{wellFormed, noEmpty}
+use Rattle.rules.specs.WellFormed.{wellFormed}
 use Rattle.rules.specs.Meaning.{WellFormed, Out}
-use Rattle.rules.specs.Answer.{Outcome, unless, BadRecord, BadRegion, Busy, InvalidParam, QueueFull, EmptyBuffer}
-use Rattle.rules.specs.Calls.{fits, badList, full, addOpened, opened, openAdd, openPop, callRefusal, matches, sameList}
+use Rattle.rules.specs.Answer.{Outcome, unless}
+use Rattle.rules.specs.Calls.{fits, badList, full, opened, openAdd, openPop, addRefusal, callRefusal, matches, sameList}
 use Rattle.laws.specs.WellFormedIs.{well-formed-means, out-means}
 use Rattle.laws.specs.StepKeeps.{power-most}
 use Rattle.laws.specs.FreeLaws.{size-most}
 use Rattle.laws.specs.Added.{size-length}
 use Rattle.laws.specs.OwnIs.{list-means}
 
--- an add's tests, one by one
-abbrev tests : Bool → Bool → Bool → Bool → Bool → Bool → List Test
-tests well fit busy bad over empty =
-    (BadRecord when not well)
-    ∷ (BadRegion when not fit)
-    ∷ (Busy when busy)
-    ∷ (InvalidParam when bad)
-    ∷ (QueueFull when over)
-    ∷ (EmptyBuffer when empty)
-    ∷ []
-
 -- where a good record has no room, what comes after that test does not matter
 refused-alike
-    : (q : Queue) (m : Memory) (well fit busy bad over over′ empty empty′ : Bool) (o o′ : Outcome)
-    → (well ≡ true → over ≡ true)
-    → (well ≡ true → over′ ≡ true)
-    → unless (first (tests well fit busy bad over empty)) q m o ≡ unless (first (tests well fit busy bad over′ empty′)) q m o′
-refused-alike q m false fit busy bad over over′ empty empty′ o o′ f g = refl
-refused-alike q m true false busy bad over over′ empty empty′ o o′ f g = refl
-refused-alike q m true true true bad over over′ empty empty′ o o′ f g = refl
-refused-alike q m true true false true over over′ empty empty′ o o′ f g = refl
-refused-alike q m true true false false over over′ empty empty′ o o′ f g = rw (f refl, g refl)
+    : (q : Queue) (m : Memory) (bs cs : List Buffer) (o o′ : Outcome)
+    → badList bs ≡ badList cs
+    → (wellFormed q ≡ true → full q (length bs) ≡ true)
+    → (wellFormed q ≡ true → full q (length cs) ≡ true)
+    → unless (addRefusal q m bs) q m o ≡ unless (addRefusal q m cs) q m o′
+refused-alike q m bs cs o o′ e f g =
+    by-test (wellFormed q)
+    (λ w. by-test (fits q m)
+    (λ i. by-test (isOpen (q .call))
+    (λ b. rw (w, i, b))
+    (λ b. by-test (badList cs) (λ l. rw (w, i, b, e, l)) (λ l. rw (w, i, b, e, l, f w, g w))))
+    (λ i. rw (w, i)))
+    (λ w. rw w)
 
 module _ (q : Queue) where
   small : wellFormed q ≡ true → q .n ≤ 64
@@ -86,10 +78,7 @@ module _ (q : Queue) (m : Memory) (bs cs : List Buffer) (long : 64 < length bs) 
   pub open-add-long : inOrder bs ≡ inOrder cs → openAdd q m bs ≡ openAdd q m cs
   unfolding openAdd
   open-add-long o =
-      ap (λ b. unless (first (tests (wellFormed q) (fits q m) (isOpen (q .call)) b (full q (length bs)) (not (noEmpty bs)))) q m (opened (addOpened q bs) m))
-      (bad-long q bs long ∙ (ap not o ∙ sym (bad-long q cs long′)))
-      ∙ refused-alike q m (wellFormed q) (fits q m) (isOpen (q .call)) (badList cs) (full q (length bs)) (full q (length cs)) (not (noEmpty bs)) (not (noEmpty cs)) _ _
-      (full-long q bs long) (full-long q cs long′)
+      refused-alike q m bs cs _ _ (bad-long q bs long ∙ (ap not o ∙ sym (bad-long q cs long′))) (full-long q bs long) (full-long q cs long′)
 
   pub open-pop-long : (t : ℕ) → openPop q m t bs ≡ openPop q m t cs
   unfolding openPop

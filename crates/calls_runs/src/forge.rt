@@ -34,21 +34,6 @@ pub fn with_field(c: Core, field: u64, x: u64, y: u64) -> Core {
     }
 }
 
-// The plain fields with another open call.
-pub fn with_call(c: Core, call: Open) -> Core {
-    let modes = c.modes;
-    Core {
-        n: c.n,
-        modes,
-        base: c.base,
-        num_used: c.num_used,
-        free_head: c.free_head,
-        avail_idx: c.avail_idx,
-        last_used_idx: c.last_used_idx,
-        call,
-    }
-}
-
 // An open call by its kind, in the order of the type, and its numbers.
 pub fn open_call(kind: u64, a: u64, b: u64, c: u64) -> Open {
     let half = (a % 65536) as u16;

@@ -10,7 +10,6 @@ mod own_turns;
 mod tokens;
 
 use crate::forge::open_call;
-use crate::forge::with_call;
 use crate::forge::with_core;
 use crate::forge::with_field;
 use crate::forge::with_word;
@@ -25,6 +24,7 @@ use crate::tokens::capped;
 use crate::tokens::number;
 use crate::tokens::read_list;
 use owning::Owning;
+use react::with_call;
 use record::Answer;
 use record::Queue;
 

@@ -96,10 +96,6 @@ module _ (q : Queue) (m m′ : Memory) (f : fits q m ≡ fits q m′) where
   step-refusal : stepRefusal q m ≡ stepRefusal q m′
   step-refusal = ap (λ b. first (stepTests q b)) f
 
--- as it is where the lengths are the same
-pub fits-alike : (q : Queue) (m m′ : Memory) → length (m .one) ≡ length (m′ .one) → length (m .two) ≡ length (m′ .two) → length (m .pool) ≡ length (m′ .pool) → fits q m ≡ fits q m′
-fits-alike q m m′ e f g = rw (e, f, g)
-
 -- a refusal, or an outcome that tells the same
 told-unless : (k k′ : ℕ) (q : Queue) (m m′ : Memory) (o o′ : Outcome) → k ≡ k′ → told o ≡ told o′ → told (unless k q m o) ≡ told (unless k′ q m′ o′)
 told-unless k k′ q m m′ o o′ e f =

@@ -9,7 +9,7 @@ use native.Mathlib.Omega.{arith}
 use lib.ListN.{length}
 use Rattle.lists.specs.Tests.{by-test, by-eq}
 use Rattle.lists.specs.Once.{Below, count, count-same, count-other}
-use Rattle.lists.specs.Walk.{hop, walk, walk-length, walk-below}
+use Rattle.lists.specs.Walk.{hop, walk, walk-below}
 use Rattle.rules.specs.declared.Held.the-variants.{Nothing}
 use Rattle.rules.specs.Record.{Queue, nextOf, notedOf, freeCount, freeList, isIndirect, entriesOf, sizeOf, buffersOf}
 use Rattle.rules.specs.Meaning.{WellFormed, Out}
@@ -87,12 +87,6 @@ module _ (o : Owning) (w : OwnWell o) where
   -- with nothing held no descriptor is free
   pub none-free : o .held ≡ Nothing → freeList q ≡ []
   none-free e = none-in (q .n) (freeList q) free-below (λ h b. out-not-free q (w .queue) h (all-away o w e h b .out))
-
-  pub all-used : o .held ≡ Nothing → q .counts .used ≡ q .n
-  all-used e =
-      let f : freeCount q ≡ 0 = sym (walk-length (nextOf q) (freeCount q) (q .counts .free)) ∙ ap length (none-free e) in
-      let u : q .counts .used ≤ q .n = w .queue .used in
-      omega arith
 
   -- a descriptor that is in hand is in no chain, since each chain is its head alone
   hand-counted : (t : ℕ) → InHand o t → count t (freeList q) ≡ 1

@@ -5,16 +5,16 @@ use mathlib.Core.Bool.{true, false, cond}
 use mathlib.Core.List.{List, [], _∷_}
 use Prim.Native.Nat.{_+_}
 use Rattle.lists.specs.Tests.{by-test}
-use Rattle.virtio.specs.Memory.{Memory, Place}
+use Rattle.virtio.specs.Memory.{Memory}
 use Rattle.rules.specs.Record.{Queue, isOpen}
 use Rattle.rules.specs.Answer.{Outcome}
-use Rattle.rules.specs.Step.{load, loaded, access, move}
+use Rattle.rules.specs.Step.{loaded, access, move}
 use Rattle.rules.specs.Calls.{fits, opened, andThen, moves, step}
 use Rattle.laws.specs.CallKeeps.{Good, move-keeps}
 use Rattle.laws.specs.Runs.{moves-open}
 use Rattle.laws.specs.StepsLeft.{run-is}
 use Rattle.laws.specs.Regions.{Shaped, still-fits, react-shaped, step-goes}
-use Rattle.laws.specs.Depends.{Told, told, isLoad, loads-none, SameBytes, mixed, SameLoaded, AlikeBytes, bytes-loaded, told-if, runs-alike-bytes}
+use Rattle.laws.specs.Depends.{Told, told, isLoad, loads-none, mixed, SameLoaded, AlikeBytes, bytes-loaded, told-if, runs-alike-bytes}
 use Rattle.laws.specs.CallDepends.{step-call-alike}
 
 -- ---- one public step
@@ -23,10 +23,6 @@ module _ (q : Queue) (m m′ : Memory) (f : fits q m ≡ fits q m′) where
   -- THE LAW of a step: of shared memory it depends only on whether it fits, and on the bytes of the field that it loads, if it loads one
   pub step-alike-bytes : SameLoaded q (access q (q .call)) m m′ → told (step q m) ≡ told (step q m′)
   step-alike-bytes s = step-call-alike q m m′ f (bytes-loaded q (access q (q .call)) m m′ s)
-
-  -- for a load of the place p
-  pub step-alike-load : (p : Place) → access q (q .call) ≡ load p → SameBytes q p m m′ → told (step q m) ≡ told (step q m′)
-  step-alike-load p a s = step-alike-bytes (subst (λ x. SameLoaded q x m m′) (sym a) s)
 
   -- where it loads none, on no byte at all
   pub step-alike-none : isLoad (access q (q .call)) ≡ false → told (step q m) ≡ told (step q m′)

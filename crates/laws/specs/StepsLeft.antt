@@ -1,11 +1,11 @@
 -- How many steps an open call may still take at most: no more than n + 4, and each step lowers the bound. So n + 4 steps close a call, and a run takes the
 -- lesser of its budget and of what n + 4 steps would take; StepsExact has the exact number.
-use mathlib.Core.Path.{_≡_, refl, ap, subst, _∙_}
+use mathlib.Core.Path.{_≡_, refl, ap, _∙_}
 use mathlib.Core.Bool.{Bool, true, false, not, cond, false≢true}
 use mathlib.Core.List.{List, [], _∷_}
 use Prim.Native.Nat.{ℕ, zero, suc, _+_, _-_, _≤_, _<_, min}
 use native.Mathlib.Omega.{arith}
-use borrow.Author.Tests.{lt-ltb, le-ltb, ltb-true, ltb-false, eqb-true, not-false}
+use borrow.Author.Tests.{eqb-true, not-false}
 use lib.Dec.{ltb, eqb}
 use Rattle.lists.specs.Tests.{by-test}
 use Rattle.lists.specs.Pick.{Test, _when_}
@@ -13,9 +13,9 @@ use Rattle.lists.specs.PickLaws.{first-none, NoneOf}
 use Rattle.virtio.specs.Memory.{Memory}
 use Rattle.rules.specs.declared.Open.{Open}
 use Rattle.rules.specs.declared.Open.the-variants.{Idle, Add, PopIdx, PopId, PopLen, PopStore, PeekIdx, PeekId}
-use Rattle.rules.specs.Record.{Queue, notedOf, outstanding, isIndirect, freeCount, isOpen, withCall}
+use Rattle.rules.specs.Record.{Queue, notedOf, outstanding, isIndirect, freeCount, isOpen}
 use Rattle.rules.specs.WellFormed.{addSteps, storeSteps}
-use Rattle.rules.specs.Meaning.{WellFormed, Out, Named, Adding, Storing}
+use Rattle.rules.specs.Meaning.{WellFormed, Out, Named}
 use Rattle.rules.specs.Answer.{Outcome, unless, WrongToken, NotOutstanding, Mismatch}
 use Rattle.rules.specs.Step.{access, loaded, tokenOf, Reaction, verdict, storedCount, react, move}
 use Rattle.rules.specs.Calls.{stepRefusal, opened, moves, run}
@@ -23,7 +23,7 @@ use Rattle.laws.specs.WellFormedIs.{out-means}
 use Rattle.laws.specs.FreeLaws.{noted-used, size-most}
 use Rattle.laws.specs.StepKeeps.{one-most}
 use Rattle.laws.specs.CallKeeps.{Good, move-keeps}
-use Rattle.laws.specs.Runs.{move-at, onward, onward-steps, moves-closed, moves-open, steps-lesser}
+use Rattle.laws.specs.Runs.{onward, onward-steps, moves-closed, moves-open, steps-lesser}
 
 -- ---- the most steps that may be left
 
@@ -156,53 +156,3 @@ run-lesser b q m g e =
     let y : run (q .n + 4) q m .steps ≡ moves (q .n + 4) (opened q m) .steps = ap (λ o. o .steps) (run-is (q .n + 4) q m e) in
     let z : moves b (opened q m) .steps ≡ min (0 + b) (moves (q .n + 4) (opened q m) .steps) = steps-lesser b (q .n + 4) (opened q m) (closes q m g) in
     omega arith
-
--- a call that counts its steps up to a number that they do not alter
-module _ (call : ℕ → Open) (total : Queue → ℕ) (is-open : (i : ℕ) → isOpen (call i) ≡ true)
-    (goes : (q : Queue) (m : Memory) (i : ℕ) → q .call ≡ call i → i + 1 < total q → (move q m .queue .call ≡ call (i + 1)) × (total (move q m .queue) ≡ total q))
-    (ends : (q : Queue) (m : Memory) (i : ℕ) → q .call ≡ call i → total q ≤ i + 1 → isOpen (move q m .queue .call) ≡ false) where
-  counts-up : (b i : ℕ) (o : Outcome) → o .queue .call ≡ call i → i < total (o .queue) → moves b o .steps ≡ o .steps + min b (total (o .queue) - i)
-  unfolding moves
-  counts-up zero i o e l = omega arith
-  counts-up (suc b) i o e l =
-      let m : moves (suc b) o .steps ≡ moves b (onward o) .steps = ap (λ r. r .steps) (moves-open b o (ap isOpen e ∙ is-open i)) in
-      by-test (ltb (i + 1) (total (o .queue)))
-      (λ t. let g = goes (o .queue) (o .memory) i e (ltb-true (i + 1) (total (o .queue)) t) in
-      let n : i + 1 < total (o .queue) = ltb-true (i + 1) (total (o .queue)) t in
-      let k : total (move (o .queue) (o .memory) .queue) ≡ total (o .queue) = g .1 in
-      omega (arith, onward-steps o, counts-up b (i + 1) (onward o) (g .0) (omega arith)))
-      (λ t. let n : total (o .queue) ≤ i + 1 = ltb-false (i + 1) (total (o .queue)) t in
-      let k : moves b (onward o) .steps ≡ onward o .steps = ap (λ r. r .steps) (moves-closed b (onward o) (ends (o .queue) (o .memory) i e n)) in
-      omega (arith, onward-steps o))
-
-module _ (q : Queue) (m : Memory) where
-  -- an add's step, and a storing pop's
-  add-goes : (h i : ℕ) → q .call ≡ Add h i → i + 1 < addSteps q h → move q m .queue ≡ withCall q (Add h (i + 1))
-  add-goes h i c l = ap (λ r. r .queue) (move-at q m (Add h i) c) ∙ rw (lt-ltb (i + 1) (addSteps q h) l)
-
-  add-ends : (h i : ℕ) → q .call ≡ Add h i → addSteps q h ≤ i + 1 → isOpen (move q m .queue .call) ≡ false
-  add-ends h i c l = ap (λ r. isOpen (r .queue .call)) (move-at q m (Add h i) c) ∙ rw (le-ltb (i + 1) (addSteps q h) l)
-
-  store-goes : (k i v : ℕ) → q .call ≡ PopStore k i v → i + 1 < storeSteps q k → move q m .queue ≡ withCall q (PopStore k (i + 1) v)
-  store-goes k i v c l = ap (λ r. r .queue) (move-at q m (PopStore k i v) c) ∙ rw (lt-ltb (i + 1) (storeSteps q k) l)
-
-  store-ends : (k i v : ℕ) → q .call ≡ PopStore k i v → storeSteps q k ≤ i + 1 → isOpen (move q m .queue .call) ≡ false
-  store-ends k i v c l =
-      ap (λ r. isOpen (r .queue .call)) (move-at q m (PopStore k i v) c) ∙ rw (le-ltb (i + 1) (storeSteps q k) l)
-
-module _ (b : ℕ) (q : Queue) (m : Memory) (g : Good q) (e : stepRefusal q m ≡ 0) where
-  -- THE LAW of an open add, at step i of head h
-  pub run-add : (h i : ℕ) → q .call ≡ Add h i → run b q m .steps ≡ min b (addSteps q h - i)
-  run-add h i c =
-      let n : Adding q h i = subst (λ d. Named q d) c (g .well .call) in
-      let x : run b q m .steps ≡ moves b (opened q m) .steps = ap (λ o. o .steps) (run-is b q m e) in
-      let y : moves b (opened q m) .steps ≡ 0 + min b (addSteps q h - i) = counts-up (Add h) (λ p. addSteps p h) (λ j. refl) (λ p s j d l. (ap (λ r. r .call) (add-goes p s h j d l), ap (λ r. addSteps r h) (add-goes p s h j d l))) (λ p s j d l. add-ends p s h j d l) b i (opened q m) c (n .step) in
-      omega arith
-
-  -- THE LAW of a storing pop, at store i of k descriptors
-  pub run-store : (k i v : ℕ) → q .call ≡ PopStore k i v → run b q m .steps ≡ min b (storeSteps q k - i)
-  run-store k i v c =
-      let n : Storing q k i = subst (λ d. Named q d) c (g .well .call) in
-      let x : run b q m .steps ≡ moves b (opened q m) .steps = ap (λ o. o .steps) (run-is b q m e) in
-      let y : moves b (opened q m) .steps ≡ 0 + min b (storeSteps q k - i) = counts-up (λ j. PopStore k j v) (λ p. storeSteps p k) (λ j. refl) (λ p s j d l. (ap (λ r. r .call) (store-goes p s k j v d l), ap (λ r. storeSteps r k) (store-goes p s k j v d l))) (λ p s j d l. store-ends p s k j v d l) b i (opened q m) c (n .step) in
-      omega arith

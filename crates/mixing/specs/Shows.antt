@@ -50,6 +50,10 @@ slots-differ i j n h k e = go (decLe (j / n) (i / n))
         let y : suc (i / n) ≤ j / n = omega (arith, z) in
         omega (arith, div-add-mod' i n, div-add-mod' j n, e, mul-le-mul-right n y)
 
+-- the index behind a count is not that of another at most 64 below it
+pub next-differs : (a t : ℕ) → t ≤ a → a ≤ t + 64 → (a + 1) % 65536 ≡ t % 65536 → ⊥
+next-differs a t l u e = omega arith
+
 -- the used ring is not in the pool
 pub used-not-pool : (legacy : Bool) → usedRegion legacy ≡ in-pool → ⊥
 used-not-pool true e = let z : _≡_ {A = ℕ} 0 1 = cc in omega arith

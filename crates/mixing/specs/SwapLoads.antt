@@ -19,7 +19,7 @@ use Rattle.rules.specs.Meaning.{WellFormed}
 use Rattle.mixing.specs.Device.{Wiring, take-next, complete, see-avail-flags, see-used-event, none-available, saw, Table, in-table, in-list, take-idx, take-head, take-chain, Device, Worked, acting, goes, comes, begin, reads, work}
 use Rattle.mixing.specs.Fields.{num, dsc, num-kept, dsc-kept, unlike}
 use Rattle.mixing.specs.Facts.{Notes, InChain, offered, isOut, DeviceAt, Facts}
-use Rattle.mixing.specs.Shows.{slot-low, chain-low, entry-low, staged-out, table-same, list-same, slot-same, idx-same, taken-slot}
+use Rattle.mixing.specs.Shows.{next-differs, slot-low, chain-low, entry-low, staged-out, table-same, list-same, slot-same, idx-same, taken-slot}
 use Rattle.mixing.specs.DeviceKeeps.{wire}
 use Rattle.mixing.specs.Seen.{Filled, still, fills, tells, offers}
 
@@ -93,10 +93,7 @@ module _ (base : ℕ) (q : Queue) (m : Memory) (d : Device) (g : Notes) (f : Fac
       let r : g .pops ≤ g .uses = f .popped in
       let s : g .uses ≤ g .takes = f .given in
       let y : (g .adds + 1) % 65536 ≡ g .takes % 65536 = sym v ∙ z ∙ a in
-      apart (g .adds) (g .takes) b (omega arith) y)
-    where
-      apart : (a t : ℕ) → t ≤ a → a ≤ t + 64 → (a + 1) % 65536 ≡ t % 65536 → ⊥
-      apart a t l u e = omega arith
+      next-differs (g .adds) (g .takes) b (omega arith) y)
 
   idx-kept : (x : Memory) → Filled q g m open? x → (open? ≡ true) ⊎ (acting (idx-work m .device .doing) ≡ true) → none? x ≡ none? m
   unfolding Has

@@ -30,7 +30,7 @@ use Rattle.mixing.specs.Device.{Device}
 use Rattle.mixing.specs.Mix.{Call, add, pop-used, peek-used, can-pop, should-notify, available-desc, set-dev-notify, opening}
 use Rattle.mixing.specs.Fields.{num, put, put-changed, num-kept, stores-swap, unlike}
 use Rattle.mixing.specs.Facts.{Notes, DriverAt, Facts}
-use Rattle.mixing.specs.Shows.{slot-low}
+use Rattle.mixing.specs.Shows.{next-differs, slot-low}
 use Rattle.mixing.specs.Seen.{access-stored}
 
 -- what a call comes to, over another memory
@@ -85,10 +85,7 @@ module _ (base : ℕ) (q : Queue) (m : Memory) (d : Device) (g : Notes) (f : Fac
       let r : g .uses ≤ g .takes = f .given in
       let s : g .takes ≤ g .adds = f .offers in
       let t : g .adds ≤ g .pops + 64 = f .near in
-      apart (g .uses) (g .pops) b (omega arith) (sym e ∙ z ∙ a))
-    where
-      apart : (a t : ℕ) → t ≤ a → a ≤ t + 64 → (a + 1) % 65536 ≡ t % 65536 → ⊥
-      apart a t l u e = omega arith
+      next-differs (g .uses) (g .pops) b (omega arith) (sym e ∙ z ∙ a))
 
   idx-kept : (Given q g open? p v) → (open? ≡ true) ⊎ (none? m ≡ false) → none? m′ ≡ none? m
   unfolding Has

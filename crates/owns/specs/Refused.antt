@@ -61,14 +61,14 @@ module _ (o : Owning) where
       pub poll-told : fit ≡ true → holdsNone (o .held) ≡ true → 0 ≡ first (pollTests o fit)
       poll-told f h = sym (rw (own-well w, f, h))
 
-      pub poll-busy : fit ≡ true → holdsNone (o .held) ≡ false → 11 ≡ first (pollTests o fit)
-      poll-busy f h = sym (rw (own-well w, f, h))
+      pub poll-held : fit ≡ true → holdsNone (o .held) ≡ false → 11 ≡ first (pollTests o fit)
+      poll-held f h = sym (rw (own-well w, f, h))
 
       pub release-short : fit ≡ false → 13 ≡ first (releaseTests o fit)
       release-short f = sym (rw (own-well w, f))
 
-      pub release-none : fit ≡ true → holdsNone (o .held) ≡ true → 8 ≡ first (releaseTests o fit)
-      release-none f h = sym (rw (own-well w, f, h))
+      pub release-unheld : fit ≡ true → holdsNone (o .held) ≡ true → 8 ≡ first (releaseTests o fit)
+      release-unheld f h = sym (rw (own-well w, f, h))
 
       pub release-told : fit ≡ true → holdsNone (o .held) ≡ false → 0 ≡ first (releaseTests o fit)
       release-told f h = sym (rw (own-well w, f, h))

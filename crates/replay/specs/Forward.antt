@@ -7,7 +7,7 @@ use native.Mathlib.Omega.{arith}
 use borrow.Author.Tests.{ltb-true, ltb-false}
 use lib.Dec.{ltb, leb, eqb}
 use lib.ListN.{length, drop}
-use Rattle.lists.specs.Tests.{by-test, and-left, and-right, and-both}
+use Rattle.lists.specs.Tests.{by-test, and-left, and-right, and-both, either}
 use Rattle.virtio.specs.declared.Buffer.{Buffer}
 use Rattle.rules.specs.Calls.{add, popUsed}
 use Rattle.text.specs.declared.Number.{Number}
@@ -37,11 +37,6 @@ use Rattle.replay.specs.Words.{line-add, line-used, line-pop, word-in, w
 use Rattle.replay.specs.Replay.{Play, wrong, called, gaveBack, addBlock, usedBlock, popBlock, block, blocks}
 use Rattle.replay.specs.Laws.{stands-long}
 
--- what is so of both is so of what a test chooses
-pub chosen : {A : Type 0} (P : A → Type 0) (b : Bool) (x y : A) → (b ≡ true → P x) → (b ≡ false → P y) → P (cond b x y)
-chosen P true x y f g = f refl
-chosen P false x y f g = g refl
-
 -- ---- numbers and lines
 
 -- a number that was read ends behind where it was read from
@@ -53,13 +48,13 @@ unfolding digitsIn
 digits-behind most [] at v = λ e. omega arith
 digits-behind most (c ∷ cs) at v =
     let w : ℕ = v * 10 + (c - 48) in
-    chosen
+    either
     (Behind at)
     (digit c)
     (cond (leb w most) (digitsIn most cs (suc at) w) none)
     (read v at)
     (λ d.
-    chosen
+    either
     (Behind at)
     (leb w most)
     (digitsIn most cs (suc at) w)
@@ -73,13 +68,13 @@ unfolding numberIn
 number-behind most [] at = λ e. absurd (false≢true e)
 number-behind most (c ∷ cs) at =
     let many : Number = digitsIn most (c ∷ cs) at 0 in
-    chosen
+    either
     (Behind at)
     (eqb c 48)
     (read 0 (suc at))
     (cond (digit c) many none)
     (λ z e. omega arith)
-    (λ z. chosen (Behind at) (digit c) many none (λ d. digits-behind most (c ∷ cs) at 0) (λ d e. absurd (false≢true e)))
+    (λ z. either (Behind at) (digit c) many none (λ d. digits-behind most (c ∷ cs) at 0) (λ d e. absurd (false≢true e)))
 
 -- a place in the text, at or behind another
 abbrev pub Inside : List ℕ → ℕ → ℕ → Type 0
@@ -96,13 +91,13 @@ pub field-read : (key : List ℕ) (most : ℕ) (s : List ℕ) (at : ℕ) → Rea
 field-read key most s at =
     let n : Number = number most s (at + length key) in
     let P : Number → Type 0 = Read s (at + length key + 1) in
-    chosen
+    either
     P
     (stands key s at)
     (ended s n)
     none
     (λ k.
-    chosen
+    either
     P
     (n .ok && stands newline s (n .at))
     (read (n .value) (suc (n .at)))
@@ -125,7 +120,7 @@ Told s from r = r .good ≡ true → Inside s from (r .at)
 entry-behind : (s : List ℕ) (at : ℕ) → entryAt s at .ok ≡ true → at ≤ entryAt s at .at
 entry-behind s at =
     let a : Number = number (2 ^ 64 - 1) s at in
-    chosen
+    either
     (Behind at)
     (a .ok && stands colon s (a .at))
     (number (2 ^ 32 - 1) s (suc (a .at)))
@@ -145,13 +140,13 @@ entries-told (suc k) output s at bs =
     let e : Entry = entryAt s at in
     let more : List Buffer = bs ++ (bufferOf output e ∷ []) in
     let P : Listed → Type 0 = Told s (at + 1) in
-    chosen
+    either
     P
     (e .ok)
     (cond (stands comma s (e .at)) (entries k output s (suc (e .at)) more) (listEnd s (e .at) more))
     unlisted
     (λ o.
-    chosen
+    either
     P
     (stands comma s (e .at))
     (entries k output s (suc (e .at)) more)
@@ -160,7 +155,7 @@ entries-told (suc k) output s at bs =
     let rest : Inside s (suc (e .at) + 1) (entries k output s (suc (e .at)) more .at) = entries-told k output s (suc (e .at)) more g in
     (omega (arith, entry-behind s at o), rest .1))
     (λ c.
-    chosen
+    either
     P
     (stands newline s (e .at))
     (listed more (suc (e .at)))
@@ -174,20 +169,20 @@ side-told key output s at bs =
     let from : ℕ = at + length key in
     let P : Listed → Type 0 = Told s (from + 1) in
     let some : Listed = cond (stands newline s from) (listed bs (suc from)) (entries 65 output s from bs) in
-    chosen
+    either
     P
     (stands key s at)
     (sideFrom output s from bs)
     unlisted
     (λ k.
-    chosen
+    either
     P
     (stands line-none s from)
     (listed bs (from + 5))
     some
     (λ n g. let l : 5 ≤ length s - from = stands-long line-none s from n in (omega arith, omega arith))
     (λ n.
-    chosen
+    either
     P
     (stands newline s from)
     (listed bs (suc from))
@@ -216,13 +211,13 @@ module _ (s : List ℕ) (p : Play) where
   lists-onward at x y f h ex ey place =
       let i : Listed = side word-in false s at [] in
       let o : Listed = side word-out true s (i .at) (i .buffers) in
-      chosen
+      either
       (Onward s p)
       (i .good)
       (cond (o .good) (f (o .buffers) (o .at)) y)
       x
       (λ a.
-      chosen
+      either
       (Onward s p)
       (o .good)
       (f (o .buffers) (o .at))
@@ -253,13 +248,13 @@ module _ (s : List ℕ) (p : Play) where
   used-onward =
       let i : Number = field word-id (2 ^ 32 - 1) s (p .at + 8) in
       let l : Number = field word-len (2 ^ 32 - 1) s (i .at) in
-      chosen
+      either
       (Onward s p)
       (i .ok)
       (cond (l .ok) (gaveBack p (i .value) (l .value) (l .at)) (wrong p 2))
       (wrong p 1)
       (λ a.
-      chosen
+      either
       (Onward s p)
       (l .ok)
       (gaveBack p (i .value) (l .value) (l .at))
@@ -278,7 +273,7 @@ module _ (s : List ℕ) (p : Play) where
       let i : Listed = side word-in false s (t .at) [] in
       let o : Listed = side word-out true s (i .at) (i .buffers) in
       let f : List Buffer → ℕ → Play = λ bs next. called p line-pop (popUsed (p .queue) (p .memory) (t .value) bs) next 4 in
-      chosen
+      either
       (Onward s p)
       (t .ok)
       (cond (i .good) (cond (o .good) (f (o .buffers) (o .at)) (wrong p 3)) (wrong p 2))
@@ -292,7 +287,7 @@ module _ (s : List ℕ) (p : Play) where
   pub block-onward : Onward s p (block s p)
   unfolding block
   block-onward =
-      chosen
+      either
       (Onward s p)
       (stands line-add s (p .at))
       (addBlock s p (p .at + 7))
@@ -302,14 +297,14 @@ module _ (s : List ℕ) (p : Play) where
       (cond (stands line-pop s (p .at)) (popBlock s p (p .at + 7)) (wrong p 0)))
       (λ a. add-onward)
       (λ a.
-      chosen
+      either
       (Onward s p)
       (stands line-used s (p .at))
       (usedBlock s p (p .at + 8))
       (cond (stands line-pop s (p .at)) (popBlock s p (p .at + 7)) (wrong p 0))
       (λ b. used-onward)
       (λ b.
-      chosen
+      either
       (Onward s p)
       (stands line-pop s (p .at))
       (popBlock s p (p .at + 7))

@@ -1,30 +1,22 @@
 -- What the code needs of the text that it read: numbers within their widths, words within the text, and at most 65 buffers on a side.
 use mathlib.Core.Path.{_≡_, sym, ap, subst, _∙_}
-use mathlib.Core.Bool.{Bool, true, false, cond, _&&_, false≢true}
+use mathlib.Core.Bool.{Bool, true, false, cond, _&&_}
 use mathlib.Core.List.{List, [], _∷_, _++_}
 use Prim.Native.Nat.{ℕ, zero, suc, _+_, _-_, _*_, _≤_}
 use native.Mathlib.Omega.{arith}
-use borrow.Author.Tests.{leb-true}
-use lib.Dec.{leb, eqb}
 use lib.ListN.{length, take, drop, replicate, length-append, length-drop}
 use lib.Seq.{length-take-le}
-use Rattle.lists.specs.Tests.{by-test, and-right}
 use Rattle.virtio.specs.Layout.{needTwo}
 use Rattle.virtio.specs.declared.Buffer.{Buffer}
-use Rattle.opens.specs.Given.{given}
 use Rattle.opens.specs.Turns.{given-length}
 use Rattle.text.specs.declared.Number.{Number}
 use Rattle.text.specs.declared.Entry.{Entry}
 use Rattle.text.specs.declared.Side.{Side}
 use Rattle.text.specs.Words.{line-none, newline, comma}
 use Rattle.text.specs.Text.{
-  starts,
   stands,
   none,
   read,
-  digit,
-  digitsIn,
-  numberIn,
   number,
   ended,
   field,
@@ -38,6 +30,7 @@ use Rattle.text.specs.Text.{
   sideFrom,
   side,
 }
+use Rattle.text.specs.Laws.{starts-long, number-most}
 use Rattle.text.specs.Held.{Lists}
 
 -- ---- a number that was read is within its width
@@ -45,32 +38,6 @@ use Rattle.text.specs.Held.{Lists}
 within : (b : Bool) (x y : Number) (most : ℕ) → (b ≡ true → x .value ≤ most) → y .value ≤ most → cond b x y .value ≤ most
 within true x y most h k = h (λ i. true)
 within false x y most h k = k
-
-digits-within : (most : ℕ) (cs : List ℕ) (at v : ℕ) → v ≤ most → digitsIn most cs at v .value ≤ most
-unfolding digitsIn
-digits-within most [] at v h = h
-digits-within most (c ∷ cs) at v h =
-    let w : ℕ = v * 10 + (c - 48) in
-    within
-    (digit c)
-    (cond (leb w most) (digitsIn most cs (suc at) w) none)
-    (read v at)
-    most
-    (λ d. within (leb w most) (digitsIn most cs (suc at) w) none most (λ e. digits-within most cs (suc at) w (leb-true w most e)) (omega arith))
-    h
-
-number-within : (most : ℕ) (cs : List ℕ) (at : ℕ) → numberIn most cs at .value ≤ most
-unfolding numberIn
-number-within most [] at = omega arith
-number-within most (c ∷ cs) at =
-    let many : Number = digitsIn most (c ∷ cs) at 0 in
-    within
-    (eqb c 48)
-    (read 0 (suc at))
-    (cond (digit c) many none)
-    most
-    (λ e. omega arith)
-    (within (digit c) many none most (λ d. digits-within most (c ∷ cs) at 0 (omega arith)) (omega arith))
 
 pub field-within : (key : List ℕ) (most : ℕ) (s : List ℕ) (at : ℕ) → field key most s at .value ≤ most
 field-within key most s at =
@@ -86,7 +53,7 @@ field-within key most s at =
     (read (n .value) (suc (n .at)))
     none
     most
-    (λ f. number-within most (drop (at + length key) s) (at + length key))
+    (λ f. number-most most s (at + length key))
     (omega arith))
     (omega arith)
 
@@ -94,12 +61,6 @@ pub value-within : (key : List ℕ) (most : ℕ) (s : List ℕ) (at : ℕ) (r : 
 value-within key most s at r e = subst (λ (x : Number). x .value ≤ most) (sym e) (field-within key most s at)
 
 -- ---- a word that stands there is within the text
-
-starts-long : (word text : List ℕ) → starts word text ≡ true → length word ≤ length text
-unfolding starts
-starts-long [] text e = omega arith
-starts-long (w ∷ ws) [] e = absurd (false≢true e)
-starts-long (w ∷ ws) (c ∷ cs) e = omega (arith, starts-long ws cs (and-right (eqb w c) (starts ws cs) e))
 
 pub stands-long : (word s : List ℕ) (at : ℕ) → stands word s at ≡ true → length word ≤ length s - at
 stands-long word s at e = omega (arith, starts-long word (drop at s) e, length-drop at s)

@@ -9,7 +9,7 @@ use borrow.Author.Tests.{ltb-true, ltb-false}
 use lib.Dec.{ltb, eqb}
 use lib.ListN.{length, take, drop, length-append}
 use lib.Seq.{sets, sets-eq, take-all, take-append-le}
-use Rattle.lists.specs.Tests.{by-test, and-left, and-right}
+use Rattle.lists.specs.Tests.{by-test, and-left, and-right, either}
 use Rattle.virtio.specs.declared.Buffer.{Buffer}
 use Rattle.virtio.specs.Memory.{Memory}
 use Rattle.rules.specs.Answer.{Outcome}
@@ -52,7 +52,7 @@ use Rattle.replay.specs.Replay.{
   transcript,
 }
 use Rattle.replay.specs.Laws.{field-within}
-use Rattle.replay.specs.Forward.{chosen, Inside, field-read, block-onward, goesOn, blocks-stop}
+use Rattle.replay.specs.Forward.{Inside, field-read, block-onward, goesOn, blocks-stop}
 use Rattle.replay.specs.Small.{SmallCall, add-small, pop-small}
 
 -- ---- numbers and lines
@@ -64,7 +64,7 @@ digit-more k x j h =
     let last : List ℕ = (48 + x % 10) ∷ [] in
     let tens : List ℕ = cond (ltb x 10) [] (decimalOf k (x / 10)) in
     let few : length tens ≤ j =
-    chosen (λ (l : List ℕ). length l ≤ j) (ltb x 10) [] (decimalOf k (x / 10)) (λ e. omega arith) (λ e. h (ltb-false x 10 e)) in
+    either (λ (l : List ℕ). length l ≤ j) (ltb x 10) [] (decimalOf k (x / 10)) (λ e. omega arith) (λ e. h (ltb-false x 10 e)) in
     omega (arith, length-append tens last)
 
 -- a number below a power of ten has no more digits than that has zeros
@@ -133,12 +133,12 @@ module _ (s : List ℕ) (p : Play) (n : p .queue .n ≤ 64) where
   lists-say at x y f hx hy hf =
       let i : Listed = side word-in false s at [] in
       let o : Listed = side word-out true s (i .at) (i .buffers) in
-      chosen
+      either
       (Says p)
       (i .good)
       (cond (o .good) (f (o .buffers) (o .at)) y)
       x
-      (λ a. chosen (Says p) (o .good) (f (o .buffers) (o .at)) y (λ b. hf (o .buffers) (o .at)) (λ b. hy))
+      (λ a. either (Says p) (o .good) (f (o .buffers) (o .at)) y (λ b. hf (o .buffers) (o .at)) (λ b. hy))
       (λ a. hx)
 
   add-says : (at : ℕ) → Says p (addBlock s p at)
@@ -159,12 +159,12 @@ module _ (s : List ℕ) (p : Play) (n : p .queue .n ≤ 64) where
       let i : Number = field word-id (2 ^ 32 - 1) s at in
       let l : Number = field word-len (2 ^ 32 - 1) s (i .at) in
       let gave : Play = gaveBack p (i .value) (l .value) (l .at) in
-      chosen
+      either
       (Says p)
       (i .ok)
       (cond (l .ok) gave (wrong p 2))
       (wrong p 1)
-      (λ a. chosen (Says p) (l .ok) gave (wrong p 2) (λ b. record { said = omega arith; size = refl }) (λ b. wrong-says 2))
+      (λ a. either (Says p) (l .ok) gave (wrong p 2) (λ b. record { said = omega arith; size = refl }) (λ b. wrong-says 2))
       (λ a. wrong-says 1)
 
   pop-says : (at : ℕ) → Says p (popBlock s p at)
@@ -175,7 +175,7 @@ module _ (s : List ℕ) (p : Play) (n : p .queue .n ≤ 64) where
       let o : Listed = side word-out true s (i .at) (i .buffers) in
       let r : List Buffer → Outcome = λ bs. popUsed (p .queue) (p .memory) (t .value) bs in
       let f : List Buffer → ℕ → Play = λ bs next. called p line-pop (r bs) next 4 in
-      chosen
+      either
       (Says p)
       (t .ok)
       (cond (i .good) (cond (o .good) (f (o .buffers) (o .at)) (wrong p 3)) (wrong p 2))
@@ -196,21 +196,21 @@ module _ (s : List ℕ) (p : Play) (n : p .queue .n ≤ 64) where
   block-says =
       let c : Play = cond (stands line-pop s (p .at)) (popBlock s p (p .at + 7)) (wrong p 0) in
       let b : Play = cond (stands line-used s (p .at)) (usedBlock s p (p .at + 8)) c in
-      chosen
+      either
       (Says p)
       (stands line-add s (p .at))
       (addBlock s p (p .at + 7))
       b
       (λ _. add-says (p .at + 7))
       (λ _.
-      chosen
+      either
       (Says p)
       (stands line-used s (p .at))
       (usedBlock s p (p .at + 8))
       c
       (λ _. used-says (p .at + 8))
       (λ _.
-      chosen
+      either
       (Says p)
       (stands line-pop s (p .at))
       (popBlock s p (p .at + 7))
@@ -229,7 +229,7 @@ blocks-say zero s p n = omega arith
 blocks-say (suc k) s p n =
     let q : Play = block s p in
     let says : Says p q = block-says s p n in
-    chosen
+    either
     (λ (r : Play). length (r .said) ≤ length (p .said) + 4 * (length s - p .at) + 60)
     (goesOn s p)
     (blocks k s q)
@@ -252,7 +252,7 @@ opened-size n indirect event at said h =
     let a : Ask = asked n indirect event in
     let m : Memory = zeros indirect n in
     let refusal : ℕ = newRefusal a (length (m .one)) (length (m .two)) (length (m .pool)) in
-    chosen (λ (r : Made). r .queue .n ≤ 64) (eqb refusal 0) (made a m) (notMade refusal m) (λ e. h) (λ e. omega arith)
+    either (λ (r : Made). r .queue .n ≤ 64) (eqb refusal 0) (made a m) (notMade refusal m) (λ e. h) (λ e. omega arith)
 
 replayed-most : (s : List ℕ) → length s ≤ 32768 → length (replayed s) ≤ 131072
 unfolding replayed
@@ -273,19 +273,19 @@ replayed-most s h =
     let ab : length two ≡ length one + length (fieldLine word-indirect (i .value)) = length-append one (fieldLine word-indirect (i .value)) in
     let abc : length three ≡ length two + length (fieldLine word-event (e .value)) = length-append two (fieldLine word-event (e .value)) in
     let rest : List ℕ = blocks (length s) s start .said in
-    chosen
+    either
     P
     (n .ok && sizeOk (n .value))
     (cond (i .ok) (cond (e .ok) rest (two ++ badLine 3)) (one ++ badLine 2))
     (badLine 1)
     (λ good.
-    chosen
+    either
     P
     (i .ok)
     (cond (e .ok) rest (two ++ badLine 3))
     (one ++ badLine 2)
     (λ fine.
-    chosen
+    either
     P
     (e .ok)
     rest
@@ -311,7 +311,7 @@ longest = 131072
 pub transcript-bound : (s : List ℕ) → length (transcript s) ≤ longest
 unfolding transcript
 transcript-bound s =
-    chosen
+    either
     (λ (l : List ℕ). length l ≤ longest)
     (ltb 32768 (length s))
     (badLine 0)

@@ -6,6 +6,7 @@ use Prim.Native.Nat.{ℕ, zero, suc, _+_, _≤_}
 use native.Mathlib.Omega.{arith}
 use lib.Dec.{ltb, eqb}
 use Rattle.lists.specs.Pick.{Test, _when_, first}
+use Rattle.lists.specs.Tests.{either}
 use Rattle.virtio.specs.declared.Buffer.{Buffer}
 use Rattle.virtio.specs.Memory.{Memory}
 use Rattle.rules.specs.declared.Open.{Open}
@@ -17,7 +18,6 @@ use Rattle.rules.specs.Step.{access, loaded, Reaction, tokenOf, verdict, stored
 use Rattle.rules.specs.Calls.{fits, addTests, callTests, addRefusal, callRefusal, addOpened, opened, matches, openAdd, openPop, moves, whole, add, popUsed}
 use Rattle.laws.specs.Regions.{react-shaped, add-shaped}
 use Rattle.laws.specs.Runs.{onward, steps-most}
-use Rattle.replay.specs.Forward.{chosen}
 
 -- ---- answers are at most 13
 
@@ -36,23 +36,23 @@ module _ (q : Queue) where
 
   react-answers : (c : Open) (v : ℕ) → Answers (react q c v)
   react-answers Idle v = omega arith
-  react-answers (Add h i) v = chosen Answers (ltb (i + 1) (addSteps q h)) _ _ (λ e. omega arith) (λ e. omega arith)
-  react-answers (PopIdx t b) v = chosen Answers (eqb v (q .counts .last)) _ _ (λ e. omega arith) (λ e. omega arith)
+  react-answers (Add h i) v = either Answers (ltb (i + 1) (addSteps q h)) _ _ (λ e. omega arith) (λ e. omega arith)
+  react-answers (PopIdx t b) v = either Answers (eqb v (q .counts .last)) _ _ (λ e. omega arith) (λ e. omega arith)
   react-answers (PopId t b) v = omega arith
   react-answers (PopLen t b d) v =
-      chosen
+      either
       Answers
       (eqb (verdict q t b d) 0)
       _
       _
-      (λ e. chosen Answers (eqb (storeSteps q (storedCount q t)) 0) _ _ (λ f. omega arith) (λ f. omega arith))
+      (λ e. either Answers (eqb (storeSteps q (storedCount q t)) 0) _ _ (λ f. omega arith) (λ f. omega arith))
       (λ e.
       first-most
       13
       ((WrongToken when not (eqb (tokenOf d) t)) ∷ (NotOutstanding when not (outstanding q t)) ∷ (Mismatch when not b) ∷ [])
       (omega arith))
-  react-answers (PopStore k i l) v = chosen Answers (ltb (i + 1) (storeSteps q k)) _ _ (λ e. omega arith) (λ e. omega arith)
-  react-answers PeekIdx v = chosen Answers (eqb v (q .counts .last)) _ _ (λ e. omega arith) (λ e. omega arith)
+  react-answers (PopStore k i l) v = either Answers (ltb (i + 1) (storeSteps q k)) _ _ (λ e. omega arith) (λ e. omega arith)
+  react-answers PeekIdx v = either Answers (eqb v (q .counts .last)) _ _ (λ e. omega arith) (λ e. omega arith)
   react-answers PeekId v = omega arith
 
 -- ---- runs
@@ -73,7 +73,7 @@ moves-small : (b n : ℕ) (o : Outcome) → Small n o → Small n (moves b o)
 unfolding moves
 moves-small zero n o h = h
 moves-small (suc b) n o h =
-    chosen (Small n) (isOpen (o .queue .call)) (moves b (onward o)) o (λ e. moves-small b n (onward o) (onward-small n o h)) (λ e. h)
+    either (Small n) (isOpen (o .queue .call)) (moves b (onward o)) o (λ e. moves-small b n (onward o) (onward-small n o h)) (λ e. h)
 
 -- ---- whole calls
 
@@ -91,9 +91,9 @@ whole-small
     → SmallCall n (whole n (unless k q m o))
 whole-small n k q m o e l h s =
     let r : Outcome = unless k q m o in
-    let open-small : Small n r = chosen (Small n) (eqb k 0) o (refused k q m) (λ f. h) (λ f. record { answer = l; size = e }) in
-    let none : r .steps ≡ 0 = chosen (λ (x : Outcome). x .steps ≡ 0) (eqb k 0) o (refused k q m) (λ f. s) (λ f. refl) in
-    chosen
+    let open-small : Small n r = either (Small n) (eqb k 0) o (refused k q m) (λ f. h) (λ f. record { answer = l; size = e }) in
+    let none : r .steps ≡ 0 = either (λ (x : Outcome). x .steps ≡ 0) (eqb k 0) o (refused k q m) (λ f. s) (λ f. refl) in
+    either
     (SmallCall n)
     (eqb (r .answer) 0)
     (moves (n + 4) r)

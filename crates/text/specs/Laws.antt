@@ -40,7 +40,7 @@ module _ (word s : List ℕ) (i p : ℕ) where
   unfolding starts
   word-next l m e = rw (from-here word i l, from-here s p m, eq-eqb (getD word i 0) (getD s p 0) (sym e))
 
-starts-long : (word s : List ℕ) → starts word s ≡ true → length word ≤ length s
+pub starts-long : (word s : List ℕ) → starts word s ≡ true → length word ≤ length s
 unfolding starts
 starts-long [] s e = omega arith
 starts-long (w ∷ ws) [] e = absurd (false≢true e)

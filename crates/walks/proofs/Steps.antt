@@ -9,7 +9,7 @@
 --     relends      a `&mut` slice is lent on
 --     closes       from a walk at each choice of lifetimes, shares and arguments to `Meets`: `walked` and `walk-meets` in one
 -- Assumes `Given`.
-use mathlib.Core.Path.{_≡_, refl, subst}
+use mathlib.Core.Path.{_≡_, subst}
 use mathlib.Core.List.{List, [], _∷_}
 use Prim.Native.Nat.{ℕ, zero, _+_}
 use lib.Dec.{T as Holds}

@@ -1,6 +1,5 @@
 -- `buffers::add_gathered` meets its contract: what stands for the copied list is lent to the record's call. Assumes nothing.
 use mathlib.Core.Path.{_≡_, ap, _∙_}
-use Prim.Native.Nat.{ℕ}
 use borrow.Author.Needs.{needs}
 use lib.ListN.{length}
 use denote.Ref.{now}

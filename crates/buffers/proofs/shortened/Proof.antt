@@ -1,9 +1,9 @@
 -- `buffers::shortened` meets its contract, by the count. Assumes nothing.
-use mathlib.Core.Path.{_∙_, ap}
+use mathlib.Core.Path.{_∙_}
 use native.Mathlib.Omega.{arith}
 use borrow.Author.Needs.{needs}
 use lib.ListN.{set, replicate}
-use Rattle.buffers.specs.Gather.{cut, shortened-short, shortened-cut}
+use Rattle.buffers.specs.Gather.{shortened-short, shortened-cut}
 use Rattle.buffers.specs.declared.Gathered.{Gathered}
 use Rattle.buffers.proofs.shortened.Statement.{statement}
 use Rattle.buffers.proofs.shortened.Tie as tie

@@ -5,7 +5,7 @@ use Rattle.rules.specs.Record.{Queue}
 use Rattle.rules.specs.Owning.{Owning, ownBroken}
 use Rattle.views.specs.Tables.{tablesOf, queueOf}
 use Rattle.owns.specs.Owns.{owningOf}
-use Rattle.owns.specs.Refused.{poll-bad, poll-short, poll-told, poll-busy}
+use Rattle.owns.specs.Refused.{poll-bad, poll-short, poll-told, poll-held}
 use borrow.Author.Needs.{needs}
 use Rattle.owns.proofs.poll_refusal.Statement.{statement}
 use Rattle.owns.proofs.poll_refusal.Tie as tie
@@ -46,7 +46,7 @@ returns-3 c =
 returns-4 : tie.Need-returns-4
 returns-4 c =
     let s : tie.Start = c .before .before .before .before .before .before .before .before .before in
-    poll-busy (own-of s) (s .args .fit) (sound (c .before .before .before)) (not-false (s .args .fit) (c .before .before .if2 .left)) (sym (c .before .holds-none .ensures) ∙ c .if3 .left)
+    poll-held (own-of s) (s .args .fit) (sound (c .before .before .before)) (not-false (s .args .fit) (c .before .before .if2 .left)) (sym (c .before .holds-none .ensures) ∙ c .if3 .left)
 
 pub poll-refusal-spec : {M : Type 1} → statement M
 poll-refusal-spec =

@@ -5,7 +5,7 @@ use Rattle.rules.specs.Record.{Queue}
 use Rattle.rules.specs.Owning.{Owning, ownBroken}
 use Rattle.views.specs.Tables.{tablesOf, queueOf}
 use Rattle.owns.specs.Owns.{owningOf}
-use Rattle.owns.specs.Refused.{release-bad, release-short, release-none, release-told}
+use Rattle.owns.specs.Refused.{release-bad, release-short, release-unheld, release-told}
 use borrow.Author.Needs.{needs}
 use Rattle.owns.proofs.release_refusal.Statement.{statement}
 use Rattle.owns.proofs.release_refusal.Tie as tie
@@ -41,7 +41,7 @@ holds-none-requires c κs = search needs
 returns-3 : tie.Need-returns-3
 returns-3 c =
     let s : tie.Start = c .before .before .before .before .before .before .before .before .before in
-    release-none (own-of s) (s .args .fit) (sound (c .before .before .before)) (not-false (s .args .fit) (c .before .before .if2 .left)) (sym (c .before .holds-none .ensures) ∙ c .if3 .taken)
+    release-unheld (own-of s) (s .args .fit) (sound (c .before .before .before)) (not-false (s .args .fit) (c .before .before .if2 .left)) (sym (c .before .holds-none .ensures) ∙ c .if3 .taken)
 
 returns-4 : tie.Need-returns-4
 returns-4 c =
