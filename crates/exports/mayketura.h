@@ -1,10 +1,15 @@
-/* The queue for programs in C: the structs and functions of crates/exports/src, whose contracts are proved there for whatever is handed in, so long as C keeps
+/* The queue for programs in C11: the structs and functions of crates/exports/src, whose contracts are proved there for whatever is handed in, so long as C keeps
  *
  *   - that a pointer is not null, even where its count is 0, and is good for its count or its array;
  *   - that what a call may write overlaps nothing else that is lent to it;
+ *   - that nothing writes what is lent while a call runs. A device that does so is in no contract here: of single loads and stores the rules speak, and
+ *     demand 3 (docs/STATEMENTS.md), and these functions only make whole calls;
  *   - that a bool is 0 or 1.
  *
- * No call makes a barrier. */
+ * A call's loads and stores are plain ones, with no barrier: another processor need not see them in their order, and C cannot place a barrier inside a
+ * call, since the single steps are not exported. Between an add and should_notify a guest places a full fence.
+ *
+ * Stack, as seen on x86-64: some 540 KiB for the functions with the record by value, 170 for mayketura_new, 65 for those over lent tables. */
 #ifndef MAYKETURA_H
 #define MAYKETURA_H
 
@@ -118,7 +123,10 @@ static_assert(sizeof(struct mayketura_lent_answer) == 40, "LentAnswer");
  *
  *   one     18 n + 6 or more: the table and the available ring
  *   two     8 n + 6 or more: the used ring
- *   pool    16 n n or more in indirect mode, else none */
+ *   pool    16 n n or more in indirect mode, else none
+ *
+ * In the legacy layout region one has the used ring too, from the next page on: 18 n + 6 and 8 n + 6, each rounded up to a multiple of 4,096; two is not
+ * used. */
 
 /* Takes a queue into use. */
 struct mayketura_flat_made mayketura_new(
@@ -150,7 +158,7 @@ struct mayketura_flat_answer mayketura_pop_used(
 	const uint8_t *two, size_t two_count,
 	uint8_t *pool, size_t pool_count);
 
-/* Tells the token of the list that the device gave back next, as the value; the list stays. */
+/* The value is the lower 16 bits of the id that the device told next, whatever it is: only a pop holds it against what is outstanding. The list stays. */
 struct mayketura_flat_answer mayketura_peek_used(
 	struct mayketura_flat q,
 	uint8_t *one, size_t one_count,
@@ -210,7 +218,7 @@ struct mayketura_lent_answer mayketura_pop_used_lent(
 	const uint8_t *two, size_t two_count,
 	uint8_t *pool, size_t pool_count);
 
-/* Tells the token of the list that the device gave back next, as the value; the list stays. */
+/* The value is the lower 16 bits of the id that the device told next, whatever it is: only a pop holds it against what is outstanding. The list stays. */
 struct mayketura_lent_answer mayketura_peek_used_lent(
 	struct mayketura_plain p,
 	uint64_t words[MAYKETURA_WORDS],

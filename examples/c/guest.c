@@ -1,6 +1,7 @@
 /* A guest in C: it takes a queue of 4 into use, sends a list of three buffers, has it back when the device is done, and prints what each call answered. The
  * device is a few stores of this program. It also tries what no queue takes. */
 #include <inttypes.h>
+#include <stdatomic.h>
 #include <stdio.h>
 #include "mayketura.h"
 
@@ -93,6 +94,8 @@ static void request(void)
 {
 	struct mayketura_lent_answer sent = kept("add", mayketura_add_lent(queue.plain, TABLES, LIST(BUFFERS), REGIONS));
 	kept("add of three more", mayketura_add_lent(queue.plain, TABLES, LIST(BUFFERS), REGIONS));
+	/* what was added is seen before it is asked whether to tell */
+	atomic_thread_fence(memory_order_seq_cst);
 	if (kept("should_notify", mayketura_should_notify_lent(queue.plain, TABLES, REGIONS)).value == 1)
 		printf("the device is notified\n");
 	kept("can_pop", mayketura_can_pop_lent(queue.plain, TABLES, REGIONS));

@@ -46,6 +46,18 @@ fn pop_request(
     buffers::pop_used(chain, &list, one, two, pool)
 }
 
+fn open_add_request(
+    queue: Queue,
+    list: [Buffer; 3],
+    one: &mut [u8],
+    two: &[u8],
+    pool: &mut [u8],
+) -> Answer
+    ensures { λ r. ⌜ answerOf r (memory (now (one .exit)) (now (two .entry)) (now (pool .exit))) ≡ openAdd (abs queue) (memory (now (one .entry)) (now (two .entry)) (now (pool .entry))) list ⌝ }
+{
+    buffers::open_add(queue, &list, one, two, pool)
+}
+
 // More buffers than any queue takes.
 fn open_add_many(
     queue: Queue,
@@ -223,6 +235,24 @@ fn take(
     done.queue
 }
 
+// Opens an add of the request, and makes its first five loads and stores.
+fn begun(queue: Queue, request: Request, one: &mut [u8], two: &[u8], pool: &mut [u8]) -> Queue {
+    let opened = open_add_request(queue, listed(request), one, two, pool);
+    report(b"add, opened", opened);
+    let queue = opened.queue;
+    let part = queue.run(5, one, two, pool);
+    report(b"add, five steps", part);
+    part.queue
+}
+
+// Adds the request again in two parts: between them a guest may place what it needs, as a barrier.
+fn stepped(queue: Queue, request: Request, one: &mut [u8], two: &[u8], pool: &mut [u8]) -> Queue {
+    let queue = begun(queue, request, one, two, pool);
+    let done = queue.run(10, one, two, pool);
+    report(b"add, run", done);
+    done.queue
+}
+
 // Lists that no queue takes, for their number; and one of them for its order too, which is tried before.
 fn too_many(queue: Queue, request: Request, one: &mut [u8], two: &[u8], pool: &mut [u8]) {
     let header = request.header;
@@ -235,12 +265,17 @@ fn too_many(queue: Queue, request: Request, one: &mut [u8], two: &[u8], pool: &m
     report(b"add of 66 buffers, an input last, opened", opened);
 }
 
-// Has the request back, with a list that no queue takes tried before and after.
+fn afterwards(queue: Queue, request: Request, one: &mut [u8], two: &[u8], pool: &mut [u8]) {
+    let queue = stepped(queue, request, one, two, pool);
+    too_many(queue, request, one, two, pool);
+}
+
+// Has the request back, with a list that no queue takes tried before, and what else a guest may do after.
 fn finish(sent: Answer, request: Request, one: &mut [u8], two: &[u8], pool: &mut [u8]) {
     let block = request.block;
     let queue = mistake(sent.queue, sent.value, block, one, two, pool);
     let queue = take(queue, sent.value, request, one, two, pool);
-    too_many(queue, request, one, two, pool);
+    afterwards(queue, request, one, two, pool);
 }
 
 fn main() {

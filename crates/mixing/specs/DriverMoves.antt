@@ -1,7 +1,7 @@
 -- What keeps the invariant where the driver's record changes, or the driver stores to a field that the invariant does not speak of.
 use mathlib.Core.Path.{_≡_, refl, sym, ap, subst, _∙_}
 use mathlib.Core.Bool.{true, false}
-use Prim.Native.Nat.{ℕ, _+_, _-_, _*_, _/_, _%_, _≤_, _<_}
+use Prim.Native.Nat.{ℕ, _+_, _*_, _/_, _%_, _≤_, _<_}
 use native.Mathlib.Omega.{arith}
 use Rattle.lists.specs.Once.{count}
 use Rattle.virtio.specs.Desc.{hasIndirect}

@@ -1,14 +1,13 @@
 // The owning queue's own clauses and refusals (document 01, "Owning" in "When the queue says no"), over lent words: each outstanding chain is its
 // token's own buffer, all are outstanding but a held one; and by which number a call is refused.
 ghost use mathlib.Core.Path.{_≡_};
-ghost use mathlib.Core.Bool.{Bool, not, _&&_, _||_};
-ghost use mathlib.Core.List.{List, [], _∷_};
+ghost use mathlib.Core.Bool.{not, _&&_, _||_};
+ghost use mathlib.Core.List.{[], _∷_};
 ghost use Prim.Native.Nat.{ℕ, _+_, _*_, _≤_, _<_, _^_};
-ghost use lib.Dec.{leb, eqb};
+ghost use lib.Dec.{eqb};
 ghost use Rattle.lists.specs.Pick.{first, every, rising, same};
 ghost use Rattle.rules.specs.declared.Held.the-variants.{Holds};
 ghost use Rattle.rules.specs.Record.{outstanding, freeList, buffersOf};
-ghost use Rattle.rules.specs.WellFormed.{baseOk};
 ghost use Rattle.rules.specs.Calls.{sameList};
 ghost use Rattle.rules.specs.Owning.{ownBuffer, sizeAllowed, holdsNone, own-clause, held-clause, ownBroken, ownNewTests, pollTests, releaseTests};
 ghost use Rattle.views.specs.Tables.{tablesOf, queueOf};

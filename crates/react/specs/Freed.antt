@@ -16,7 +16,7 @@ use Rattle.rules.specs.declared.Open.the-variants.{Add, PopStore}
 use Rattle.rules.specs.Record.{Queue, Tables, descOf, notedOf, isIndirect, entriesOf, sizeOf}
 use Rattle.rules.specs.Meaning.{Out, Adding, Storing, Named}
 use Rattle.rules.specs.Step.{freed, storedCount}
-use Rattle.laws.specs.FreeLaws.{noted-used}
+use Rattle.laws.specs.FreeLaws.{noted-used, size-most}
 use Rattle.views.specs.declared.Core.{Core}
 use Rattle.views.specs.Tables.{tablesOf, queueOf}
 use Rattle.tables.specs.Stores.{withNoted}
@@ -42,11 +42,11 @@ module _ (c : Core) (r : ℕ) (words lens halves : List ℕ) (sides : List Bool)
     entries-most : isIndirect q h ≡ true → entriesOf q h ≤ c .n
     entries-most e = s .good .well .listed h o e .most
 
-    pub size-most : sizeOf q h ≤ 64
-    size-most =
-        by-test (isIndirect q h)
-        (λ e. rw e (let m : entriesOf q h ≤ c .n = entries-most e in let n : c .n ≤ 64 = small c r words lens halves sides s .1 in omega arith))
-        (λ e. rw e (noted-most .2))
+    pub size-below : sizeOf q h ≤ 64
+    size-below =
+        let m : sizeOf q h ≤ c .n = size-most q (s .good .well) h o in
+        let n : c .n ≤ 64 = small c r words lens halves sides s .1 in
+        omega arith
 
     pub stored-most : (x : ℕ) → x ≡ storedCount q h → x ≤ 64
     stored-most x z =

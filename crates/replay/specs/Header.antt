@@ -21,7 +21,7 @@ use Rattle.text.specs.declared.Number.{Number}
 use Rattle.text.specs.Text.{field}
 use Rattle.print.specs.Print.{fieldLine, badLine, Written}
 use Rattle.replay.specs.Words.{word-size, word-indirect, word-event}
-use Rattle.replay.specs.Replay.{Play, blocks, zeros, asked, opened, replayed, transcript}
+use Rattle.replay.specs.Replay.{blocks, zeros, asked, opened, replayed, transcript}
 use Rattle.replay.specs.Plays.{Plays}
 use Rattle.replay.specs.Laws.{take-zeros}
 

@@ -86,6 +86,9 @@ fn main() {
     let mut two = [0u8; 38];
     let mut pool = [0u8; 1];
     let made = Queue::new(ask, &mut one, &mut two, &pool);
+    if made.answer != 0 {
+        return;
+    }
     let queue = made.queue;
     let list = [
         Buffer {
@@ -106,6 +109,9 @@ fn main() {
     ];
     let sent = add_request(queue, list, &mut one, &two, &mut pool);
     report(b"add", sent);
+    if sent.answer != 0 {
+        return;
+    }
     if wants_notice(sent, &one, &two, &pool) {
         io::write_all(1, b"the device is notified\n");
     }

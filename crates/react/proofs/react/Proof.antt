@@ -10,7 +10,7 @@ use Rattle.tables.specs.Ready.{Ready}
 use Rattle.react.specs.declared.Reacted.{Reacted}
 use Rattle.react.specs.Reactions.{reactedOf}
 use Rattle.react.specs.Cases.{for-call}
-use Rattle.react.specs.Freed.{size-most, adding, storing}
+use Rattle.react.specs.Freed.{size-below, adding, storing}
 use Rattle.react.proofs.react.Statement.{statement}
 use Rattle.react.proofs.react.Tie as tie
 use Rattle.react.proofs.react.Reads as reads
@@ -65,7 +65,7 @@ add-stored-requires c κs =
     let s : Start = c .before .before .before .before .before .before .before .before .before .before .before in
     let h : ℕ = c .before .before .before .before .before .call .given .0 .0 in
     let e : c .size-at .result ≡ sizeOf (queue s) h = c .size-at .ensures (s .args .sides .now) in
-    let m : sizeOf (queue s) h ≤ 64 = size-most (s .args .c) (s .args .room) (s .args .words .now) (s .args .lens .now) (s .args .halves .now) (s .args .sides .now) (s .pre) h (added (c .before .before .before .before .before) .head) in
+    let m : sizeOf (queue s) h ≤ 64 = size-below (s .args .c) (s .args .room) (s .args .words .now) (s .args .lens .now) (s .args .halves .now) (s .args .sides .now) (s .pre) h (added (c .before .before .before .before .before) .head) in
     let i : c .before .before .before .before .before .call .given .0 .1 .0 < sizeOf (queue s) h + 3 = added (c .before .before .before .before .before) .step in
     (omega arith, omega arith)
 
