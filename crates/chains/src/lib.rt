@@ -1,16 +1,17 @@
-// Clauses of a well-formed record (document 01, "The record") that walk: the free list and the outstanding chains name each descriptor once, chains end
-// where they say, and how many there are. Each is a small function over lent slices, one for each field of the private tables.
+// Clauses of a well-formed record (document 01, "The record") that walk: every next is below n, the free list and the outstanding chains name each descriptor
+// once, chains end where they say, and how many there are. One walk over the lent fields of the private tables answers the first three; marks are bits of
+// lent words.
 ghost use mathlib.Core.Path.{_≡_};
-ghost use mathlib.Core.Bool.{false, true, not, cond, _||_};
-ghost use mathlib.Core.List.{List, _++_};
-ghost use Prim.Native.Nat.{ℕ, _-_, _≤_, _<_};
+ghost use mathlib.Core.Bool.{true, _&&_};
+ghost use Prim.Native.Nat.{_+_, _-_, _%_, _≤_, _<_};
 ghost use lib.Dec.{ltb};
-ghost use lib.ListN.{length, getD, set};
+ghost use lib.ListN.{length};
+ghost use Rattle.lists.specs.Marks.{Marks, Clear};
 ghost use Rattle.lists.specs.Pick.{every, tally};
-ghost use Rattle.lists.specs.Walk.{walk, walks, ending};
-ghost use Rattle.lists.specs.Once.{onceEach};
-ghost use Rattle.lists.specs.Visit.{visit};
-ghost use Rattle.views.specs.Views.{at, goes, heads, Closed};
+ghost use Rattle.views.specs.Views.{at, heads};
+ghost use Rattle.chains.specs.Links.{agrees, Found};
+use free_list::free_walk;
+use marks::mark;
 
 // Whether every next of the table is below n.
 pub fn nexts_below(n: u16, next: &[u16]) -> bool
@@ -27,115 +28,85 @@ pub fn nexts_below(n: u16, next: &[u16]) -> bool
     true
 }
 
-// Marks i, and answers whether it was not marked before.
-fn mark(seen: &mut [bool], i: usize) -> bool
-    requires { ⌜ i < length (now seen) ⌝ }
-    ensures { λ r. ⌜ (r ≡ not (getD (now (seen .entry)) i false)) × (now (seen .exit) ≡ set (now (seen .entry)) i true) ⌝ }
+// Whether chains end where they say, so far and with one more descriptor: NEXT is among its flags exactly if more are to come in its chain.
+fn still_ends(ended: bool, flags: u16, more: u16) -> bool
+    ensures { λ r. ⌜ r ≡ (ended && agrees flags more) ⌝ }
 {
-    let first = !seen[i];
-    seen[i] = true;
-    first
-}
-
-// What a walk leaves: whether each descriptor was met for the first time, with names left for it, and how many names are still to come.
-struct Walked {
-    ok: bool,
-    left: usize,
-}
-
-// The free list: marks its k descriptors from i on, and ends at the first that was marked before or has no name left for it.
-fn free_walk(n: u16, next: &[u16], seen: &mut [bool], names: usize, k: u16, i: usize) -> Walked
-    requires { ⌜ Closed n (now next) ⌝ }
-    requires { ⌜ (n ≤ length (now seen)) × (i < n) ⌝ }
-    ensures { λ r. ⌜ ((rest : List ℕ) → visit (now (seen .entry)) names (walk (at (now (next .entry))) k i ++ rest) ≡ cond (r .ok) (visit (now (seen .exit)) (r .left) rest) false) ⌝ }
-{
-    let mut left = names;
-    let mut more = k;
-    let mut j = i;
-    while 0 < more {
-        if left == 0 {
-            return Walked { ok: false, left };
-        }
-        if mark(seen, j) {
-            left -= 1;
-            more -= 1;
-            j = next[j] as usize;
-        } else {
-            return Walked { ok: false, left };
-        }
+    let goes = flags % 2 == 1;
+    if 0 < more {
+        ended && goes
+    } else {
+        ended && !goes
     }
-    Walked { ok: true, left }
 }
 
-// Whether free list and chains together have each descriptor in one place. A descriptor met again ends the walk, out of both loops.
-pub fn once(n: u16, used: u16, free: u16, next: &[u16], noted: &[u16]) -> bool
-    requires { ⌜ n ≤ 64 ⌝ }
-    requires { ⌜ (used ≤ n) × (free < n) ⌝ }
-    requires { ⌜ Closed n (now next) ⌝ }
-    requires { ⌜ n ≤ length (now noted) ⌝ }
-    ensures { λ r. ⌜ r ≡ onceEach n (walk (at (now (next .entry))) (n - used) free ++ walks (at (now (next .entry))) (at (now (noted .entry))) n 0) ⌝ }
+// What the walk of free list and chains finds: whether every next is below n and each descriptor is in one place; and then, whether each outstanding chain
+// ends at its noted length.
+pub struct Walked {
+    pub named: bool,
+    pub ended: bool,
+}
+
+// The walk, with marks that the caller lends, none of them set. A descriptor met again ends it, out of both loops; so do a next of n or more, and a chain
+// that is longer than what is left.
+fn links_in(
+    n: u16,
+    used: u16,
+    free: u16,
+    next: &[u16],
+    flags: &[u16],
+    noted: &[u16],
+    seen: &mut [u64],
+) -> Walked
+    requires { ⌜ (used ≤ n) × (free < n) × Marks n seen ⌝ }
+    requires { ⌜ (n ≤ length (now next)) × (n ≤ length (now flags)) × (n ≤ length (now noted)) ⌝ }
+    requires { ⌜ Clear seen ⌝ }
+    ensures { λ r. ⌜ Found n used free (now (next .entry)) (now (flags .entry)) (now (noted .entry)) r ⌝ }
 {
-    let size = n as usize;
-    let mut seen = [false; 64];
-    let freed = free_walk(n, next, &mut seen, size, n - used, free as usize);
-    if !freed.ok {
-        return false;
+    if !free_walk(n, next, seen, n - used, free) {
+        return Walked {
+            named: false,
+            ended: false,
+        };
     }
-    let mut left = freed.left;
-    let mut h = 0;
-    'heads: while h < size {
-        let mut m = noted[h];
+    let mut left = used;
+    let mut ended = true;
+    let mut h: u16 = 0;
+    'heads: while h < n {
+        let mut m = noted[h as usize];
+        if left < m {
+            break 'heads;
+        }
         let mut j = h;
         while 0 < m {
-            if left == 0 {
+            let x = next[j as usize];
+            if n <= x {
                 break 'heads;
             }
-            if seen[j] {
+            if !mark(seen, j as usize) {
                 break 'heads;
             }
-            seen[j] = true;
             left -= 1;
             m -= 1;
-            j = next[j] as usize;
+            ended = still_ends(ended, flags[j as usize], m);
+            j = x;
         }
         h += 1;
     }
-    size <= h && left == 0
+    Walked {
+        named: n <= h && left == 0,
+        ended,
+    }
 }
 
-// Whether of the k descriptors from h on each has NEXT but the last.
-fn chain_ends(n: u16, next: &[u16], flags: &[u16], k: u16, h: usize) -> bool
-    requires { ⌜ Closed n (now next) ⌝ }
-    requires { ⌜ (n ≤ length (now flags)) × (h < n) ⌝ }
-    ensures { λ r. ⌜ r ≡ ending (goes (now (flags .entry))) (at (now (next .entry))) k h ⌝ }
+// The walk of a queue of at most 64, whose marks are one word.
+pub fn links(n: u16, used: u16, free: u16, next: &[u16], flags: &[u16], noted: &[u16]) -> Walked
+    requires { ⌜ (n ≤ 64) × (used ≤ n) × (free < n) ⌝ }
+    requires { ⌜ (n ≤ length (now next)) × (n ≤ length (now flags)) × (n ≤ length (now noted)) ⌝ }
+    ensures { λ r. ⌜ Found n used free (now (next .entry)) (now (flags .entry)) (now (noted .entry)) r ⌝ }
 {
-    let mut m = k;
-    let mut i = h;
-    while 1 < m {
-        if flags[i] % 2 == 0 {
-            return false;
-        }
-        m -= 1;
-        i = next[i] as usize;
-    }
-    m == 0 || flags[i] % 2 == 0
-}
-
-// Whether each outstanding chain ends at its noted length.
-pub fn ends(n: u16, next: &[u16], flags: &[u16], noted: &[u16]) -> bool
-    requires { ⌜ Closed n (now next) ⌝ }
-    requires { ⌜ (n ≤ length (now flags)) × (n ≤ length (now noted)) ⌝ }
-    ensures { λ r. ⌜ r ≡ every (λ h. not (heads n (now (noted .entry)) h) || ending (goes (now (flags .entry))) (at (now (next .entry))) (at (now (noted .entry)) h) h) n 0 ⌝ }
-{
-    let mut h: usize = 0;
-    while h < n as usize {
-        if chain_ends(n, next, flags, noted[h], h) {
-            h += 1;
-        } else {
-            return false;
-        }
-    }
-    true
+    let mut seen: [u64; 1] = [0; 1];
+    links_in(n, used, free, next, flags, noted, &mut seen)
 }
 
 // How many chains are outstanding.

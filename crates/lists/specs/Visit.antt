@@ -1,28 +1,22 @@
--- Names met one by one and marked: the bridge from `onceEach` to loops over walks, single and nested, that stop at the first repeat. What is still to be answered
--- is told by the names that are still to come, so that a loop's invariant says nothing of those passed.
+-- Names met one by one and marked: the bridge from `onceEach` to loops over walks that stop at the first repeat. What is still to be answered is told by the
+-- names that are still to come, so that a loop's invariant says nothing of those passed.
 use mathlib.Core.Path.{_≡_, refl, sym, ap, _∙_}
 use mathlib.Core.List.{List, [], _∷_, _++_}
 use mathlib.Core.Bool.{Bool, true, false, not, _&&_, _||_, and-true, and-false}
 use Prim.Native.Nat.{ℕ, zero, suc, _+_, _-_, _≤_, _<_}
 use native.Mathlib.Omega.{arith}
-use native.Mathlib.Nat.{sub-zero}
-use native.Mathlib.Numerals.{add-one}
 use borrow.Author.Tests.{eqb-true, eqb-false}
 use lib.Dec.{eqb, eqb·suc-suc, eqb·suc-zero, eqb·zero-suc}
 use lib.ListN.{length, getD, set, length-set, replicate, getD-replicate}
 use lib.Seq.{getD-set-same, getD-set-other}
 use Rattle.lists.specs.Once.{mem, noDup, onceEach, Below, below-all}
-use Rattle.lists.specs.Walk.{walk, walks}
+use Rattle.lists.specs.Walk.{walk}
 
 -- each name is not marked yet, and is marked; and as many are met as were left
 unfoldable pub visit : List Bool → ℕ → List ℕ → Bool
 visit seen left [] = eqb left 0
 visit seen zero (x ∷ xs) = false
 visit seen (suc left) (x ∷ xs) = not (getD seen x false) && visit (set seen x true) left xs
-
-visit-none : (seen : List Bool) (left x : ℕ) (xs : List ℕ) → left ≡ 0 → visit seen left (x ∷ xs) ≡ false
-unfolding visit
-visit-none seen left x xs e = rw (e, visit)
 
 visit-seen : (seen : List Bool) (left x : ℕ) (xs : List ℕ) → getD seen x false ≡ true → visit seen left (x ∷ xs) ≡ false
 unfolding visit
@@ -38,73 +32,21 @@ visit-next seen (suc left) x xs p h = rw h (ap (λ n. visit (set seen x true) n 
 -- ---- one walk, and then what comes after it
 
 module _ (next : ℕ → ℕ) where
-  walk-next : (k i : ℕ) → 0 < k → walk next k i ≡ i ∷ walk next (k - 1) (next i)
+  -- its first number, and the walk from there
+  pub walk-next : (k i : ℕ) → 0 < k → walk next k i ≡ i ∷ walk next (k - 1) (next i)
   unfolding walk
   walk-next zero i p = absurd (omega arith)
   walk-next (suc k) i p =
       let e : k ≡ suc k - 1 = omega arith in
       ap (λ m. i ∷ walk next m (next i)) e
 
-  -- with m to go from j: all met; none left; met before; and on
-  module _ (seen : List Bool) (left m j : ℕ) (rest : List ℕ) where
-    pub walk-over : m ≡ 0 → visit seen left (walk next m j ++ rest) ≡ visit seen left rest
-    unfolding walk
-    walk-over e = rw (e, walk)
+  -- with m to go from j: met before; and on
+  module _ (seen : List Bool) (left m j : ℕ) (rest : List ℕ) (p : 0 < m) where
+    pub walk-seen : getD seen j false ≡ true → visit seen left (walk next m j ++ rest) ≡ false
+    walk-seen e = rw (walk-next m j p, visit-seen seen left j _ e)
 
-    module _ (p : 0 < m) where
-      pub walk-none : left ≡ 0 → visit seen left (walk next m j ++ rest) ≡ false
-      walk-none e = rw (walk-next m j p, visit-none seen left j _ e)
-
-      pub walk-seen : getD seen j false ≡ true → visit seen left (walk next m j ++ rest) ≡ false
-      walk-seen e = rw (walk-next m j p, visit-seen seen left j _ e)
-
-      pub walk-met : 0 < left → getD seen j false ≡ false → visit seen left (walk next m j ++ rest) ≡ visit (set seen j true) (left - 1) (walk next (m - 1) (next j) ++ rest)
-      walk-met l e = rw (walk-next m j p, visit-next seen left j _ l e)
-
--- ---- nested loops over the walks of 0..n-1
-
-module _ (next size : ℕ → ℕ) (n : ℕ) where
-  -- what is still to be answered: at head h; in the walk of head h, with m to go from j
-  unfoldable pub headsRest : List Bool → ℕ → ℕ → Bool
-  headsRest seen left h = visit seen left (walks next size (n - h) h)
-
-  unfoldable pub linkRest : List Bool → ℕ → ℕ → ℕ → ℕ → Bool
-  linkRest seen left h m j = visit seen left (walk next m j ++ walks next size (n - (h + 1)) (h + 1))
-
-  module _ (seen : List Bool) (left : ℕ) where
-    pub heads-start : visit seen left (walks next size n 0) ≡ headsRest seen left 0
-    unfolding headsRest
-    heads-start = rw sub-zero
-
-    module _ (h : ℕ) where
-      pub heads-enter : h < n → headsRest seen left h ≡ linkRest seen left h (size h) h
-      unfolding headsRest linkRest walks
-      heads-enter l =
-          let e : n - h ≡ suc (n - suc h) = omega arith in
-          rw (e, walks, add-one)
-
-      pub heads-done : n ≤ h → headsRest seen left h ≡ eqb left 0
-      unfolding headsRest walks visit
-      heads-done l =
-          let e : n - h ≡ 0 = omega arith in
-          rw (e, walks)
-
-      pub link-done : (m j : ℕ) → m ≡ 0 → linkRest seen left h m j ≡ headsRest seen left (h + 1)
-      unfolding linkRest headsRest
-      link-done m j e = walk-over next seen left m j _ e
-
-      module _ (m j : ℕ) (p : 0 < m) where
-        pub link-none : left ≡ 0 → linkRest seen left h m j ≡ false
-        unfolding linkRest
-        link-none e = walk-none next seen left m j _ p e
-
-        pub link-seen : getD seen j false ≡ true → linkRest seen left h m j ≡ false
-        unfolding linkRest
-        link-seen e = walk-seen next seen left m j _ p e
-
-        pub link-next : 0 < left → getD seen j false ≡ false → linkRest seen left h m j ≡ linkRest (set seen j true) (left - 1) h (m - 1) (next j)
-        unfolding linkRest
-        link-next l e = walk-met next seen left m j _ p l e
+    pub walk-met : 0 < left → getD seen j false ≡ false → visit seen left (walk next m j ++ rest) ≡ visit (set seen j true) (left - 1) (walk next (m - 1) (next j) ++ rest)
+    walk-met l e = rw (walk-next m j p, visit-next seen left j _ l e)
 
 -- ---- that is what `onceEach` says
 

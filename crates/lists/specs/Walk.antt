@@ -1,10 +1,11 @@
 -- Walks along links: `next` gives the number that each number links to.
-use mathlib.Core.Path.{_≡_, refl, ap, ap₂, _∙_}
-use mathlib.Core.Bool.{Bool, true, false, not, _&&_}
+use mathlib.Core.Path.{_≡_, refl, sym, ap, ap₂, _∙_}
+use mathlib.Core.Bool.{Bool, true, false, not, cond, _&&_, and-true}
 use mathlib.Core.List.{List, [], _∷_, _++_, map}
 use Prim.Native.Nat.{ℕ, zero, suc, _+_, _-_, _≤_, _<_}
 use native.Mathlib.Omega.{arith}
-use borrow.Author.Tests.{not-true}
+use borrow.Author.Tests.{lt-ltb, not-true}
+use lib.Dec.{ltb}
 use lib.ListN.{length, getD}
 use Rattle.lists.specs.Tests.{and-left, and-right, and-both, false-not}
 use Rattle.lists.specs.Once.{Below, below-append}
@@ -86,24 +87,14 @@ ending goes next (suc zero) i = not (goes i)
 ending goes next (suc (suc k)) i = goes i && ending goes next (suc k) (next i)
 
 module _ (goes : ℕ → Bool) (next : ℕ → ℕ) where
-  -- a loop's turn, where `goes` holds at i and i is not the last; its way out, where it does not; and its end, at the last number or at none
-  pub ending-next : (k i : ℕ) → 1 < k → goes i ≡ true → ending goes next k i ≡ ending goes next (k - 1) (next i)
+  -- a loop's turn, and its end
+  pub ending-turn : (k i : ℕ) → 0 < k → ending goes next k i ≡ (cond (ltb 0 (k - 1)) (goes i) (not (goes i)) && ending goes next (k - 1) (next i))
   unfolding ending
-  ending-next zero i l e = absurd (omega arith)
-  ending-next (suc zero) i l e = absurd (omega arith)
-  ending-next (suc (suc k)) i l e =
+  ending-turn zero i l = absurd (omega arith)
+  ending-turn (suc zero) i l = sym (and-true (not (goes i)))
+  ending-turn (suc (suc k)) i l =
       let m : suc k ≡ suc (suc k) - 1 = omega arith in
-      rw e (ap (λ j. ending goes next j (next i)) m)
-
-  pub ending-bad : (k i : ℕ) → 1 < k → goes i ≡ false → ending goes next k i ≡ false
-  unfolding ending
-  ending-bad zero i l e = absurd (omega arith)
-  ending-bad (suc zero) i l e = absurd (omega arith)
-  ending-bad (suc (suc k)) i l e = rw e
-
-  pub ending-last : (k i : ℕ) → k ≡ 1 → ending goes next k i ≡ not (goes i)
-  unfolding ending
-  ending-last k i e = rw (e, ending)
+      rw (lt-ltb 0 (suc (suc k) - 1) (omega arith)) (ap (λ j. goes i && ending goes next j (next i)) m)
 
   pub ending-none : (k i : ℕ) → k ≡ 0 → ending goes next k i ≡ true
   unfolding ending

@@ -1,19 +1,18 @@
 -- The groups of clauses in order, over the sections of the lent words: which sections the code's parts are, how long they are once the plain clauses hold,
 -- what the links show of the nexts, and which group tells the first broken clause.
-use mathlib.Core.Path.{_≡_, sym, _∙_}
-use mathlib.Core.Bool.{Bool, true}
-use mathlib.Core.List.{List, _++_}
+use mathlib.Core.Path.{_≡_, refl, sym, _∙_}
+use mathlib.Core.Bool.{Bool, true, false, not, cond, _&&_, true≢false, false≢true}
+use mathlib.Core.List.{List, [], _∷_, _++_}
 use Prim.Native.Nat.{ℕ, _+_, _-_, _*_, _≤_}
 use native.Mathlib.Nat.{mul-le-mul}
 use native.Mathlib.Omega.{arith}
-use borrow.Author.Tests.{not-false, ltb-true}
-use lib.Dec.{ltb}
+use borrow.Author.Tests.{not-false}
 use lib.ListN.{length, take, drop, length-take, length-drop}
-use Rattle.lists.specs.Pick.{Test, first, every}
-use Rattle.lists.specs.PickLaws.{Numbered, first-none, first-then, first-stops, every-true}
+use Rattle.lists.specs.Pick.{Test, _when_, first}
+use Rattle.lists.specs.PickLaws.{Numbered, first-none, first-then, first-stops}
 use Rattle.rules.specs.WellFormed.{broken}
 use Rattle.views.specs.declared.Core.{Core}
-use Rattle.views.specs.Views.{at, Closed}
+use Rattle.views.specs.Views.{Closed}
 use Rattle.views.specs.Tables.{ofTable, ofLists, nextsIn, flagsIn, notedIn, sidesIn, tablesOf, queueOf}
 use Rattle.views.specs.Clauses.{plainTests, linkTests, linkTestsIn, headTestsIn, callTestsIn, broken-view, links-show}
 use Rattle.wellformed.specs.Room.{Room}
@@ -28,19 +27,27 @@ noted-part r halves = let e : 3 * r - 2 * r ≡ r = omega arith in rw e
 pub lists-part : (r : ℕ) (lens : List ℕ) → take (r + r * r - r) (drop r lens) ≡ ofLists r lens
 lists-part r lens = let e : r + r * r - r ≡ r * r = omega arith in rw e
 
--- nexts that are all below n, in a list that holds n of them
-pub closes : (n : ℕ) (next : List ℕ) → n ≤ length next → every (λ i. ltb (at next i) n) n 0 ≡ true → Closed n next
-closes n next l e = record {
-  room = l;
-  nexts = λ i h. ltb-true (at next i) n (every-true (λ j. ltb (at next j) n) n 0 e i (omega arith) (omega arith));
-}
-
 -- the links hold, so the nexts lead below n
 pub links-close : (c : Core) (next flags noted : List ℕ) → c .n ≤ length next → first (linkTests c next flags noted) ≡ 0 → Closed (c .n) next
 links-close c next flags noted l e = record {
   room = l;
   nexts = links-show c next (not-false _ (first-none (linkTests c next flags noted) (omega arith) e .0)) .nexts;
 }
+
+-- the first of the link tests, by what the walk found: one of the first two is broken; or neither is
+abbrev pub linked : Bool → Bool → Bool → List Test
+linked nexts once ends = (4 when not nexts) ∷ (5 when not once) ∷ (6 when not ends) ∷ []
+
+pub by-unnamed : (nexts once ends : Bool) → (nexts && once) ≡ false → cond nexts 5 4 ≡ first (linked nexts once ends)
+by-unnamed false once ends e = refl
+by-unnamed true false ends e = refl
+by-unnamed true true ends e = absurd (true≢false e)
+
+pub by-named : (nexts once ends : Bool) → (nexts && once) ≡ true → first (linked nexts once ends) ≡ cond ends 0 6
+by-named false once ends e = absurd (false≢true e)
+by-named true false ends e = absurd (false≢true e)
+by-named true true true e = refl
+by-named true true false e = refl
 
 -- the first of two groups that is broken, where the first is not
 passes : (ts us : List Test) → Numbered ts → first ts ≡ 0 → first (ts ++ us) ≡ first us

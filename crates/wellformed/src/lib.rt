@@ -3,19 +3,18 @@
 ghost use mathlib.Core.Path.{_≡_};
 ghost use mathlib.Core.Bool.{cond};
 ghost use Prim.Native.Nat.{_+_, _*_, _≤_};
-ghost use lib.Dec.{eqb};
+ghost use lib.Dec.{eqb, ltb};
 ghost use lib.ListN.{length};
-ghost use Rattle.lists.specs.Pick.{first, one-if};
+ghost use Rattle.lists.specs.Pick.{every, first, one-if};
 ghost use Rattle.virtio.specs.Layout.{needPool};
 ghost use Rattle.rules.specs.Record.{isAdd};
 ghost use Rattle.rules.specs.WellFormed.{baseOk, broken as brokenIs};
-ghost use Rattle.views.specs.Views.{Closed};
+ghost use Rattle.views.specs.Views.{at, Closed};
 ghost use Rattle.views.specs.Tables.{tablesOf, queueOf};
 ghost use Rattle.views.specs.Clauses.{plainTests, linkTests, headTests, callTests, Plain};
 ghost use Rattle.wellformed.specs.Room.{Room};
-use chains::ends;
+use chains::links;
 use chains::nexts_below;
-use chains::once;
 use chains::out_count;
 use heads::base_ok;
 use heads::buffers_sound;
@@ -55,7 +54,15 @@ fn plain_broken(c: Core) -> u8
     0
 }
 
-// How the tables link: nexts, each descriptor named once, ends of chains.
+// Which of two clauses is broken where the walk found one of them broken: a next of n or more, or else a descriptor that is not named once.
+fn unnamed(n: u16, next: &[u16]) -> u8
+    requires { ⌜ n ≤ length (now next) ⌝ }
+    ensures { λ r. ⌜ r ≡ cond (every (λ i. ltb (at (now (next .entry)) i) n) n 0) 5 4 ⌝ }
+{
+    if nexts_below(n, next) { 5 } else { 4 }
+}
+
+// How the tables link: nexts, each descriptor named once, ends of chains. One walk answers them all; which of the first two is broken is asked after it.
 fn links_broken(c: Core, next: &[u16], flags: &[u16], noted: &[u16]) -> u8
     requires { ⌜ Plain c ⌝ }
     requires { ⌜ (c .n ≤ length (now next)) × (c .n ≤ length (now flags)) ⌝ }
@@ -65,13 +72,11 @@ fn links_broken(c: Core, next: &[u16], flags: &[u16], noted: &[u16]) -> u8
     if c.n <= c.free_head {
         return 4;
     }
-    if !nexts_below(c.n, next) {
-        return 4;
+    let walked = links(c.n, c.num_used, c.free_head, next, flags, noted);
+    if !walked.named {
+        return unnamed(c.n, next);
     }
-    if !once(c.n, c.num_used, c.free_head, next, noted) {
-        return 5;
-    }
-    if !ends(c.n, next, flags, noted) {
+    if !walked.ended {
         return 6;
     }
     0
