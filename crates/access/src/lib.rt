@@ -1,4 +1,6 @@
 // The one load or store that an open call makes next (document 01, "Step by step"): which it is, read off the record, and the doing of it on lent bytes.
+#![tactic(auto)]
+
 ghost use Rattle.std.specs.Prelude.{◌≡◌, List, ℕ, ◌+◌, ◌<◌, ◌≤◌, length};
 ghost use Rattle.lists.specs.Bytes.{get_le};
 ghost use Rattle.virtio.specs.Layout.{used_size, used_at, need_one, need_two};
@@ -19,7 +21,7 @@ use views::Core;
 use virtio::Desc;
 
 // A load of a used field, a store of one of the driver's fields, or nothing where no call is open.
-#[derive(Drop)]
+#[derive(Clone, Copy)]
 pub enum Access {
     Nothing,
     LoadIdx,

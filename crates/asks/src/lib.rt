@@ -16,7 +16,7 @@ use refusals::{call_refusal, fits};
 use views::Core;
 
 // What a call answers: the number, the value, how many loads and stores were made; and the plain fields after it.
-#[derive(Drop)]
+#[derive(Clone, Copy)]
 pub struct Done {
     pub core: Core,
     pub answer: u8,

@@ -1,6 +1,8 @@
 // Clauses of a well-formed record (document 01, "The record") that walk: every next is below n, the free list and the outstanding chains name each descriptor
 // once, chains end where they say, and how many there are. One walk over the lent fields of the private tables answers the first three; marks are bits of
 // lent words.
+#![tactic(auto)]
+
 ghost use Rattle.std.specs.Prelude.{◌≡◌, true, ◌&&◌, ◌+◌, ◌-◌, ◌%◌, ◌≤◌, ◌<◌, ltb, length};
 ghost use Rattle.lists.specs.Marks.{Marks, Clear};
 ghost use Rattle.lists.specs.Pick.{every, tally};
@@ -39,7 +41,7 @@ fn still_ends(ended: bool, flags: u16, more: u16) -> bool
 
 // What the walk of free list and chains finds: whether every next is below n and each descriptor is in one place; and then, whether each outstanding chain
 // ends at its noted length.
-#[derive(Drop)]
+#[derive(Clone, Copy)]
 pub struct Walked {
     pub named: bool,
     pub ended: bool,

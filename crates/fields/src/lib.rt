@@ -1,4 +1,6 @@
 // Little-endian numbers of 2, 4 and 8 bytes, and descriptors of 16, loaded from and stored to lent bytes (document 01, part 2).
+#![tactic(auto)]
+
 ghost use Rattle.std.specs.Prelude.{◌≡◌, ◌+◌, ◌≤◌, ◌<◌, ◌^◌, length};
 ghost use Rattle.lists.specs.Bytes.{get_le, put_le};
 ghost use Rattle.virtio.specs.Desc.{desc_at, put_desc};

@@ -1,5 +1,7 @@
 // The walk of the free list: its descriptors are marked run by run, since a free list mostly rises or falls by one from descriptor to descriptor. The answer
 // is that of a walk link by link.
+#![tactic(auto)]
+
 ghost use Rattle.std.specs.Prelude.{◌+◌, ◌≤◌, ◌<◌, length};
 ghost use Rattle.lists.specs.Asked.{Bounded};
 ghost use Rattle.lists.specs.Marks.{Marks, marks_in};
@@ -43,7 +45,7 @@ fn down(n: u16, next: &[u16], d: u16, most: u16) -> u16
 }
 
 // The first run of a walk: `count` numbers from `low` on, which share a word of marks, and the one of them that the walk leaves by.
-#[derive(Drop)]
+#[derive(Clone, Copy)]
 struct Run {
     low: u16,
     count: u16,

@@ -1,4 +1,6 @@
 // What the call new does to lent bytes and words: clear a part, link the table, link the private nexts (document 01, "The record", last paragraph).
+#![tactic(auto)]
+
 ghost use Rattle.std.specs.Prelude.{◌≡◌, ◌+◌, ◌-◌, ◌*◌, ◌≤◌, ◌<◌, length};
 ghost use Rattle.std.proofs.lemmas.List.Edits.{sets};
 ghost use Rattle.fresh.specs.Nexts.{lastly};

@@ -1,5 +1,7 @@
 // Clauses of a well-formed record (document 01, "The record") that look at single heads: size, base, indirect heads, the buffers of each chain, and the
 // open call. Each is a small function over lent slices, one for each field of the private tables.
+#![tactic(auto)]
+
 ghost use Rattle.std.specs.Prelude.{◌≡◌, true, not, ◌&&◌, ◌||◌, ◌+◌, ◌-◌, ◌*◌, ◌≤◌, ◌<◌, ◌^◌, ltb, leb, length};
 ghost use Rattle.lists.specs.Pick.{every};
 ghost use Rattle.rules.specs.WellFormed.{size_ok, base_ok, listed, sound_list, call_fits, steps_of_add, steps_of_stores};

@@ -1,4 +1,6 @@
 // The 16-bit indices of the rings, counted by wrapping add and compared by wrapping subtract (document 01, "Rules of the calls" and its forms).
+#![tactic(auto)]
+
 ghost use Rattle.std.specs.Prelude.{◌≡◌};
 ghost use Rattle.lists.specs.Index.{after as after_is, ahead as ahead_is};
 

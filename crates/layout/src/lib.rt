@@ -1,4 +1,6 @@
 // The sizes of a queue's parts and where they lie, for every queue size and both layouts (document 01, part 1).
+#![tactic(auto)]
+
 ghost use Rattle.std.specs.Prelude.{◌≡◌, ◌≤◌, ◌^◌, length};
 ghost use Rattle.virtio.specs.Layout.{table_size, avail_size, used_size, page_up, avail_at, used_at, need_one, need_two, need_pool};
 ghost use Rattle.layout.specs.Parts.{used_ring_of};

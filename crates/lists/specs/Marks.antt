@@ -3,7 +3,7 @@
 use Rattle.std.specs.Prelude.{◌≡◌, refl, ◌⊎◌, Bool, true, false, List, map, ℕ, zero, suc, ◌+◌, ◌*◌, ◌/◌, ◌%◌, ◌^◌, ◌≤◌, ◌<◌, max, eqb, length, get_or, set, replicate}
 use Rattle.std.proofs.Common.{sym, ap, ◌∙◌, inl, inr, arith, eq-eqb, length-set, ext_get_or, get_or-set_same, get_or-set_other}
 use Rattle.std.proofs.Math.Nat.{zero-div}
-use Rattle.std.specs.Borrow.{Bor}
+use Rattle.std.specs.Borrow.{MutBor}
 use Rattle.std.specs.Int.Bits.{bit_or}
 use Rattle.std.proofs.lemmas.List.{length-map, length-replicate}
 use Rattle.lists.specs.Pick.{rising}
@@ -19,15 +19,15 @@ marked ws i = eqb (digit (get_or ws (i / 64) 0) (i % 64)) 1
 unfoldable pub marks_of : List ℕ → List Bool
 marks_of ws = map (marked ws) (rising (64 * length ws) 0)
 
-abbrev pub marks_in : Bor (List ℕ) → List Bool
+abbrev pub marks_in : MutBor (List ℕ) → List Bool
 marks_in seen = marks_of seen.now
 
 -- there is a mark for each of 0..n-1
-abbrev pub Marks : ℕ → Bor (List ℕ) → Type 0
+abbrev pub Marks : ℕ → MutBor (List ℕ) → Type 0
 Marks n seen = n ≤ 64 * length seen.now
 
 -- none of the words has a mark
-abbrev pub Clear : Bor (List ℕ) → Type 0
+abbrev pub Clear : MutBor (List ℕ) → Type 0
 Clear seen = (i : ℕ) → get_or seen.now i 0 ≡ 0
 
 pub marks_length : (ws : List ℕ) → length (marks_of ws) ≡ 64 * length ws

@@ -1,4 +1,6 @@
 // Marks as bits of lent 64-bit words: mark i is bit i % 64 of word i / 64.
+#![tactic(auto)]
+
 ghost use Rattle.std.specs.Prelude.{◌≡◌, true, false, not, ◌+◌, ◌%◌, ◌≤◌, ◌<◌, get_or, set};
 ghost use Rattle.lists.specs.Digits.{ones};
 ghost use Rattle.lists.specs.Marks.{Marks, marks_in};

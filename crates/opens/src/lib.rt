@@ -1,5 +1,7 @@
 // The openings of add and pop (document 01, "Rules of the calls", "Step by step"): the list that the caller's number slices say, the tests of it, the
 // private update of an add, direct and indirect, and pop's comparison with the list that was added.
+#![tactic(auto)]
+
 ghost use Rattle.std.specs.Prelude.{◌≡◌, Bool, true, List, ℕ, ◌+◌, ◌*◌, ◌<◌, ◌≤◌, length, get_or, drop};
 ghost use Rattle.lists.specs.Pick.{run_of};
 ghost use Rattle.lists.specs.Walk.{hop};

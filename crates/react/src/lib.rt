@@ -1,5 +1,7 @@
 // What becomes of the record when the open call has made its access (document 01, "Step by step"): the call goes on, or it ends with a number and a
 // value; at a pop's third load all checks are made and the token's chain is freed.
+#![tactic(auto)]
+
 ghost use Rattle.std.specs.Prelude.{◌≡◌, Bool, cond, List, ℕ, ◌+◌, ◌*◌, ◌/◌, ◌<◌, ◌≤◌, length};
 ghost use Rattle.virtio.specs.Desc.{has_indirect};
 ghost use Rattle.rules.specs.declared.Open.TheVariants.{Idle, Add, PopIdx, PopLen, PopStore, PeekIdx};
@@ -19,7 +21,7 @@ use views::Core;
 use virtio::{Buffer, Desc};
 
 // The plain fields after a step, and what the call answers: 0 and 0 while it goes on.
-#[derive(Drop)]
+#[derive(Clone, Copy)]
 pub struct Reacted {
     pub core: Core,
     pub answer: u8,

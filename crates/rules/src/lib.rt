@@ -1,7 +1,7 @@
 // No code: the driver's rules (document 01) in specs/, and here the plain types of the record that rules and code share.
 
 // What was negotiated: indirect lists, event indices, and the legacy layout.
-#[derive(Drop)]
+#[derive(Clone, Copy)]
 pub struct Modes {
     pub indirect: bool,
     pub event_idx: bool,
@@ -9,7 +9,7 @@ pub struct Modes {
 }
 
 // The open call: none, or a call and the step that it makes next (document 01, "Step by step").
-#[derive(Drop)]
+#[derive(Clone, Copy)]
 pub enum Open {
     Idle,
     // An add of the chain at `head`; `step` counts from 0.
@@ -26,7 +26,7 @@ pub enum Open {
 }
 
 // What the caller of an owning queue holds: nothing, or the buffer of a token, of which the device wrote `len` bytes.
-#[derive(Drop)]
+#[derive(Clone, Copy)]
 pub enum Held {
     Nothing,
     Holds { token: u16, len: u32 },

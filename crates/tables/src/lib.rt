@@ -1,5 +1,7 @@
 // The private tables as the rules have them, in lent words (views): loads and stores of a descriptor, of a noted length and of a list entry, and links
 // followed. Code above this crate passes the words on and never reads or stores one itself, so that where a word lies is said here and in views alone.
+#![tactic(auto)]
+
 ghost use Rattle.std.specs.Prelude.{◌≡◌, Bool, false, cond, List, ℕ, ◌+◌, ◌*◌, ◌/◌, ◌≤◌, ◌<◌, length, get_or};
 ghost use Rattle.lists.specs.Walk.{hop as hop_is};
 ghost use Rattle.virtio.specs.Desc.{no_desc, no_buffer, has_indirect, flags_of};

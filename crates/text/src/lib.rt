@@ -1,4 +1,6 @@
 // Reads the text of a replay: words, plain decimal numbers, lines of a key and a number, and lines of a key and entries.
+#![tactic(auto)]
+
 ghost use Rattle.std.specs.Prelude.{◌≡◌, not, cond, true, false, suc, ◌+◌, ◌*◌, ◌≤◌, leb, eqb, drop, List};
 ghost use Rattle.virtio.specs.declared.Buffer.{Buffer};
 ghost use Rattle.text.specs.Text.{none as none_is, stands as stands_is, digit, digits_in, number as number_is, field as field_is, entry_at};
@@ -7,7 +9,7 @@ ghost use Rattle.text.specs.Words.{newline};
 ghost use Rattle.text.specs.Held.{Rooms, Holds, Lists};
 
 // A number that was read: whether one stood there within its width, and where the text goes on.
-#[derive(Drop)]
+#[derive(Clone, Copy)]
 pub struct Number {
     pub ok: bool,
     pub value: u64,
@@ -15,7 +17,7 @@ pub struct Number {
 }
 
 // An address and a length.
-#[derive(Drop)]
+#[derive(Clone, Copy)]
 pub struct Entry {
     pub ok: bool,
     pub addr: u64,
@@ -24,7 +26,7 @@ pub struct Entry {
 }
 
 // A side's line: whether it was good, how many buffers there are with its own, and where the next line starts.
-#[derive(Drop)]
+#[derive(Clone, Copy)]
 pub struct Side {
     pub ok: bool,
     pub count: usize,

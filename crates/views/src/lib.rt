@@ -3,7 +3,7 @@
 use rules::{Modes, Open};
 
 // The record's fields beside its tables.
-#[derive(Drop)]
+#[derive(Clone, Copy)]
 pub struct Core {
     pub n: u16,
     pub modes: Modes,

@@ -2,7 +2,7 @@
 // The rules are written from the public document and say nothing of the driver; document 01, parts 1 and 2, says which layouts we use.
 
 // An entry of a descriptor table (2.6.5).
-#[derive(Drop)]
+#[derive(Clone, Copy)]
 pub struct Desc {
     pub addr: u64,
     pub len: u32,
@@ -11,7 +11,7 @@ pub struct Desc {
 }
 
 // A buffer of a chain: its address, its length, and its side; an output is what the device writes.
-#[derive(Drop)]
+#[derive(Clone, Copy)]
 pub struct Buffer {
     pub addr: u64,
     pub len: u32,

@@ -1,0 +1,10 @@
+-- `fields::store_desc` meets its contract: the four stores ensure the four nested stores of `put_desc`.
+-- Assumes nothing.
+use borrow.Author.Rules.{rules}
+use Rattle.virtio.specs.Desc.{put_desc}
+use Rattle.fields.proofs.store_desc.Goals as goal
+
+pub returns : goal.returns
+unfolding put_desc
+returns c =
+    rw (c.store16-2.ensures, c.store16.ensures, c.store32.ensures, c.store64.ensures)

@@ -1,0 +1,40 @@
+-- `opens::none_empty` meets its contract: what is asked of the whole list is what is asked of it from i on.
+use mathlib.Core.Path.{◌≡◌, refl, sym, ◌∙◌}
+use mathlib.Core.List.{List, ◌∷◌}
+use Prim.Native.Nat.{ℕ, ◌+◌, ◌-◌}
+use native.Mathlib.Omega.{arith}
+use borrow.Author.Rules.{rules}
+use lib.ListN.{length, drop}
+use Rattle.virtio.specs.declared.Buffer.{Buffer}
+use Rattle.rules.specs.WellFormed.{no_empty}
+use Rattle.opens.specs.Given.{given}
+use Rattle.opens.specs.Turns.{given_rest, given_over, empty_next, empty_stop, empty_none}
+use Rattle.opens.proofs.none_empty.Goals as goal
+
+pub loop-i-init : goal.loop-i-init
+loop-i-init c = refl
+
+pub returns-then-b-eq0 : goal.returns-then-b-eq0
+returns-then-b-eq0 c =
+    let s : _ = c.args in
+    let g : List Buffer = given s.addrs.now s.lens.now s.sides.now in
+    let i : ℕ = c.loop-i.i in
+    let b : Buffer = c.buffer_at-b.result in
+    let e : drop i g ≡ b ∷ drop (i + 1) g = given_rest s.addrs.now s.lens.now s.sides.now i b (omega arith) c.buffer_at-b.ensures in
+    sym (c.loop-i.invariant ∙ empty_stop (drop i g) (drop (i + 1) g) b e c.if-b-eq0.true)
+
+pub loop-i-preserved : goal.loop-i-preserved
+loop-i-preserved c =
+    let s : _ = c.args in
+    let g : List Buffer = given s.addrs.now s.lens.now s.sides.now in
+    let i : ℕ = c.loop-i.i in
+    let b : Buffer = c.buffer_at-b.result in
+    let e : drop i g ≡ b ∷ drop (i + 1) g = given_rest s.addrs.now s.lens.now s.sides.now i b (omega arith) c.buffer_at-b.ensures in
+    c.loop-i.invariant ∙ empty_next (drop i g) (drop (i + 1) g) b e c.if-b-eq0.false
+
+pub returns : goal.returns
+returns c =
+    let s : _ = c.args in
+    let g : List Buffer = given s.addrs.now s.lens.now s.sides.now in
+    let i : ℕ = c.loop-i.i in
+    sym (c.loop-i.invariant ∙ empty_none (drop i g) (given_over s.addrs.now s.lens.now s.sides.now i (omega arith)))

@@ -1,0 +1,6 @@
+-- `react::goes_on` meets its contract: the fields with the call.
+use borrow.Author.Rules.{rules}
+use Rattle.react.proofs.goes_on.Goals as goal
+
+pub returns : goal.returns
+returns c = cc

@@ -1,0 +1,6 @@
+-- `react::publish` meets its contract: the fields as they are stored.
+use borrow.Author.Rules.{rules}
+use Rattle.react.proofs.publish.Goals as goal
+
+pub returns : goal.returns
+returns c = cc
