@@ -1,5 +1,7 @@
 // The check that a record is well formed (document 01, "The record"): the number of the first broken clause, 0 for none. It works on lent slices, so that
 // it serves a record with its tables inside and one whose tables are lent.
+#![tactic(auto)]
+
 ghost use Rattle.std.specs.Prelude.{◌≡◌, cond, ◌+◌, ◌*◌, ◌≤◌, eqb, ltb, length};
 ghost use Rattle.lists.specs.Pick.{every, first, one_if};
 ghost use Rattle.virtio.specs.Layout.{need_pool};

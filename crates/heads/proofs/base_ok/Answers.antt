@@ -1,7 +1,6 @@
 -- The answer is `base_ok` of base and size. Where the size is not 0, the last byte lies below 2^64 exactly where the end is at most 2^64.
 use Prim.Native.Nat.{ℕ, ◌+◌, ◌-◌, ◌%◌, ◌^◌}
 use native.Mathlib.Omega.{arith}
-use borrow.Author.Rules.{rules}
 use borrow.Author.Tests.{eq-eqb, ne_eqb, le-leb}
 use Rattle.heads.specs.Heads.{leb_same}
 use Rattle.heads.proofs.base_ok.Goals as goal

@@ -1,11 +1,9 @@
 -- The answer is whether `sound_at` holds at each number below n. The loop's invariant: it is whether it holds at each from h on.
 use mathlib.Core.Path.{◌≡◌}
-use mathlib.Core.Bool.{Bool, true, false}
-use Prim.Native.Nat.{ℕ, ◌-◌, ◌≤◌}
+use mathlib.Core.Bool.{true, false}
+use Prim.Native.Nat.{ℕ}
 use native.Mathlib.Omega.{arith}
 use native.Mathlib.Nat.{sub-zero}
-use borrow.Author.Rules.{rules}
-use Rattle.lists.specs.Pick.{every}
 use Rattle.heads.specs.Heads.{sound_at, heads_turn, heads_stop, heads_end}
 use Rattle.heads.proofs.buffers_sound.Goals as goal
 
@@ -14,7 +12,14 @@ loop-h-init c = (omega arith, rw sub-zero)
 
 pub head_sound-requires : goal.head_sound-requires
 head_sound-requires c =
-    (c.requires.closed, ((c.requires.n_bound, omega arith), c.requires.1.1))
+    record {
+      closed = c.requires.closed;
+      n_bound = (c.requires.n_bound, omega arith);
+      n_in_bounds = c.requires.n_in_bounds;
+      n_in_bounds_2 = c.requires.n_in_bounds_2;
+      n_in_bounds_3 = c.requires.n_in_bounds_3;
+      short = c.requires.short;
+    }
 
 pub loop-h-preserved : goal.loop-h-preserved
 loop-h-preserved c =

@@ -1,12 +1,8 @@
 -- The answer is whether `sound_at` holds at each number below n. The loop's invariant: it is whether it holds at each from h on.
 use mathlib.Core.Path.{◌≡◌}
-use mathlib.Core.Bool.{Bool, true, false}
-use Prim.Native.Nat.{ℕ, ◌-◌, ◌≤◌}
-use native.Mathlib.Omega.{arith}
-use native.Mathlib.Nat.{sub-zero}
-use borrow.Author.Rules.{rules}
+use Prim.Native.Nat.{◌-◌, ◌≤◌}
 use Rattle.lists.specs.Pick.{every}
-use Rattle.heads.specs.Heads.{sound_at, heads_turn, heads_stop, heads_end}
+use Rattle.heads.specs.Heads.{sound_at}
 use Rattle.heads.proofs.buffers_sound.Given as goal
 
 abbrev pub invariant-loop-h : goal.invariant-loop-h

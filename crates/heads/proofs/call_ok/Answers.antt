@@ -1,5 +1,4 @@
 -- The answer is `call_fits` of the open call: in each arm the variant's own clause, which is what the arm's call ensures.
-use borrow.Author.Rules.{rules}
 use Rattle.heads.proofs.call_ok.Goals as goal
 
 pub returns-in-Add : goal.returns-in-Add

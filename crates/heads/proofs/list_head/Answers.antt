@@ -1,7 +1,6 @@
 -- The answer is `listed` of the descriptor, test by test. Slot h begins within the pool, so that its address fits.
 use Prim.Native.Nat.{ℕ, ◌+◌, ◌*◌, ◌/◌}
 use native.Mathlib.Omega.{arith}
-use borrow.Author.Rules.{rules}
 use borrow.Author.Tests.{eq-eqb, ne_eqb, le-leb, lt-leb}
 use Rattle.heads.specs.Heads.{whole_same, slot_fits}
 use Rattle.heads.proofs.list_head.Goals as goal

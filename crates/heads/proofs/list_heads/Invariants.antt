@@ -1,15 +1,8 @@
 -- The answer is whether `listed_at` holds at each number below n. The loop's invariant: it is whether it holds at each from h on.
 use mathlib.Core.Path.{◌≡◌}
-use mathlib.Core.Logic.{⊎_elim}
-use mathlib.Core.Bool.{Bool, true, false}
-use mathlib.Core.List.{List}
-use Prim.Native.Nat.{ℕ, ◌-◌, ◌≤◌}
-use native.Mathlib.Omega.{arith}
-use native.Mathlib.Nat.{sub-zero}
-use borrow.Author.Rules.{rules}
+use Prim.Native.Nat.{◌-◌, ◌≤◌}
 use Rattle.lists.specs.Pick.{every}
-use Rattle.views.specs.Views.{heads}
-use Rattle.heads.specs.Heads.{listed_at, heads_some, heads_none, heads_turn, heads_stop, heads_end}
+use Rattle.heads.specs.Heads.{listed_at}
 use Rattle.heads.proofs.list_heads.Given as goal
 
 abbrev pub invariant-loop-h : goal.invariant-loop-h

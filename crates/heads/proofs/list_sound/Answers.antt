@@ -1,18 +1,15 @@
 -- The answer is `sound_list` of the k entries. The loop's invariant: it is `sound_rest` of the k - m entries that are left.
 use mathlib.Core.Path.{◌≡◌, sym, ◌∙◌}
-use mathlib.Core.Logic.{⊎_elim}
-use mathlib.Core.Bool.{Bool, false, true≢false}
+use mathlib.Core.Bool.{Bool, true, false, true≢false}
 use mathlib.Core.List.{List}
-use Prim.Native.Nat.{ℕ, ◌+◌, ◌-◌, ◌≤◌}
+use Prim.Native.Nat.{ℕ, ◌+◌, ◌-◌}
 use native.Mathlib.Omega.{arith}
-use borrow.Author.Rules.{rules}
-use borrow.Author.Tests.{not-true, not-false}
 use native.Mathlib.Nat.{add-zero, sub-zero}
 use lib.ListN.{get_or}
-use Rattle.rules.specs.WellFormed.{sound_list}
 use Rattle.views.specs.Views.{entries}
-use Rattle.heads.specs.Rest.{sound_rest, rest_start, rest_none, rest_empty, rest_input, rest_next, entries_none, entries_next}
+use Rattle.heads.specs.Rest.{rest_start, rest_none, rest_empty, rest_input, rest_next, entries_none, entries_next}
 use Rattle.heads.proofs.list_sound.Goals as goal
+use Rattle.heads.proofs.list_sound.Goals.{else-written-via-then-written+else-not-side, else-written-via-else-written}
 
 pub loop-m-init : goal.loop-m-init
 loop-m-init c = (omega arith, rw (add-zero, sub-zero) (rest_start (entries c.args.lens.now c.args.sides.now c.args.from c.args.k)))
@@ -36,7 +33,7 @@ returns-then-not-side c =
     let m : ℕ = c.loop-m.m in
     let written : Bool = c.loop-m.written in
     let side : Bool = get_or sides (from + m) false in
-    sym (c.loop-m.invariant.1 ∙ rest_input written (entries_next lens sides from k m (omega arith)) c.if-written.true (not-true side c.if-not-side.true-raw))
+    sym (c.loop-m.invariant.1 ∙ rest_input written (entries_next lens sides from k m (omega arith)) c.if-written.true c.if-not-side.true)
 
 pub loop-m-preserved : goal.loop-m-preserved
 loop-m-preserved c =
@@ -47,7 +44,8 @@ loop-m-preserved c =
     let m : ℕ = c.loop-m.m in
     let written : Bool = c.loop-m.written in
     let side : Bool = get_or sides (from + m) false in
-    (omega arith, c.loop-m.invariant.1 ∙ rest_next written (entries_next lens sides from k m (omega arith)) c.if-lens-i-eq0.false (⊎_elim (λ w h. not-false side w.1.left) (λ w h. absurd (true≢false (sym h ∙ w.left))) c.else-written.branch))
+    let kept : written ≡ true → side ≡ true = λ h. elim c.else-written.branch [ else-written-via-then-written+else-not-side w ↦ w.if-not-side.false | else-written-via-else-written w ↦ absurd (true≢false (sym h ∙ w.if-written.false)) ] in
+    (omega arith, c.loop-m.invariant.1 ∙ rest_next written (entries_next lens sides from k m (omega arith)) c.if-lens-i-eq0.false kept)
 
 pub returns : goal.returns
 returns c =

@@ -1,5 +1,5 @@
 -- The answer is `size_ok`: each size that is matched is in its list, and no other is.
-use borrow.Author.Tests.{ne_eqb}
+use Rattle.std.proofs.Common.{arith, ne_eqb}
 use Rattle.lists.specs.Once.{mem}
 use Rattle.rules.specs.WellFormed.{size_ok}
 use Rattle.heads.proofs.size_ok.Goals as goal
@@ -35,4 +35,4 @@ returns-in-64 c = rw c.in-64.is
 pub returns-in_default : goal.returns-in_default
 unfolding size_ok mem
 returns-in_default c =
-    rw (ne_eqb c.args.n 1 c.in_default.in_default-own.rest.0.0.0.0.0.0.1, ne_eqb c.args.n 2 c.in_default.in_default-own.rest.0.0.0.0.0.1, ne_eqb c.args.n 4 c.in_default.in_default-own.rest.0.0.0.0.1, ne_eqb c.args.n 8 c.in_default.in_default-own.rest.0.0.0.1, ne_eqb c.args.n 16 c.in_default.in_default-own.rest.0.0.1, ne_eqb c.args.n 32 c.in_default.in_default-own.rest.0.1, ne_eqb c.args.n 64 c.in_default.in_default-own.rest.1)
+    rw (ne_eqb c.args.n 1 (λ e. omega arith), ne_eqb c.args.n 2 (λ e. omega arith), ne_eqb c.args.n 4 (λ e. omega arith), ne_eqb c.args.n 8 (λ e. omega arith), ne_eqb c.args.n 16 (λ e. omega arith), ne_eqb c.args.n 32 (λ e. omega arith), ne_eqb c.args.n 64 (λ e. omega arith))

@@ -7,7 +7,6 @@ use Rattle.views.specs.Tables.{queue_of}
 use Rattle.views.specs.declared.Core.{Core}
 use Rattle.rules.specs.Step.{ends}
 use Rattle.react.specs.Cases.{add_goes, add_ends}
-use borrow.Author.Rules.{rules}
 use Rattle.react.proofs.add_stored.Goals as goal
 
 pub returns-then-step-size : goal.returns-then-step-size

@@ -1,13 +1,10 @@
 -- `react::clear_entries` meets its contract: what all entries become is what the rest become from where the loop stands.
-use mathlib.Core.Path.{◌≡◌, refl, sym, ap₂, ◌∙◌}
+use mathlib.Core.Path.{◌≡◌}
 use mathlib.Core.List.{List}
 use Prim.Native.Nat.{ℕ, ◌+◌, ◌-◌, ◌≤◌}
-use native.Mathlib.Omega.{arith}
-use borrow.Author.Rules.{rules}
 use lib.ListN.{length}
 use Rattle.views.specs.Tables.{tables_of}
 use Rattle.react.specs.Reactions.{cleared}
-use Rattle.react.specs.Freeing.{clear_turn, clear_none}
 use Rattle.react.proofs.clear_entries.Given as goal
 
 abbrev pub invariant-loop-i : goal.invariant-loop-i

@@ -1,5 +1,4 @@
 -- `react::ends` meets its contract: the fields with no call open.
-use borrow.Author.Rules.{rules}
 use Rattle.react.proofs.ends.Goals as goal
 
 pub returns : goal.returns

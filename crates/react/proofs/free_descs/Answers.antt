@@ -2,16 +2,14 @@
 use mathlib.Core.Path.{◌≡◌, refl, sym, ap, ◌∙◌, subst}
 use mathlib.Core.Bool.{Bool}
 use mathlib.Core.List.{List, []}
-use Prim.Native.Nat.{ℕ, ◌<◌}
+use Prim.Native.Nat.{◌<◌}
 use native.Mathlib.Omega.{arith}
-use borrow.Author.Rules.{rules}
-use lib.ListN.{length, get_or}
+use lib.ListN.{get_or}
 use Rattle.virtio.specs.declared.Desc.{Desc}
 use Rattle.virtio.specs.Desc.{no_desc}
 use Rattle.rules.specs.Record.{Tables}
 use Rattle.views.specs.Tables.{tables_of}
 use Rattle.tables.specs.Stores.{with_desc, next_below}
-use Rattle.react.specs.Reactions.{links, unchained}
 use Rattle.react.specs.Freeing.{free_turn, turn_links, free_last}
 use Rattle.react.proofs.free_descs.Goals as goal
 

@@ -1,5 +1,4 @@
 -- `react::freed_core` meets its contract: the fields as they are stored.
-use borrow.Author.Rules.{rules}
 use Rattle.react.proofs.freed_core.Goals as goal
 
 pub returns : goal.returns

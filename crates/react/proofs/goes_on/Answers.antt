@@ -1,5 +1,4 @@
 -- `react::goes_on` meets its contract: the fields with the call.
-use borrow.Author.Rules.{rules}
 use Rattle.react.proofs.goes_on.Goals as goal
 
 pub returns : goal.returns

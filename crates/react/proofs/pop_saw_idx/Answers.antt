@@ -4,7 +4,6 @@ use Rattle.react.specs.declared.Reacted.{Reacted}
 use Rattle.react.specs.Reactions.{reacted_of}
 use Rattle.views.specs.Tables.{queue_of}
 use Rattle.react.specs.Cases.{pop_none, pop_some}
-use borrow.Author.Rules.{rules}
 use Rattle.react.proofs.pop_saw_idx.Goals as goal
 
 pub returns-then-idx-c : goal.returns-then-idx-c

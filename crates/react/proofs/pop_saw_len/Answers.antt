@@ -1,7 +1,7 @@
 -- `react::pop_saw_len` meets its contract: refused by the verdict, or the chain freed and its descriptors to be stored, if any.
 use mathlib.Core.Path.{◌≡◌, ap, ◌∙◌}
 use Prim.Native.Nat.{◌<◌, ◌≤◌}
-use Rattle.rules.specs.Record.{Tables, Queue}
+use Rattle.rules.specs.Record.{Tables}
 use Rattle.rules.specs.Meaning.{Out}
 use Rattle.rules.specs.Step.{stored_count}
 use Rattle.views.specs.Tables.{tables_of, queue_of}
@@ -11,8 +11,7 @@ use Rattle.react.specs.Reactions.{reacted_of}
 use Rattle.react.specs.Cases.{fine_out, count_is, pop_refused, pop_ends, pop_goes}
 use Rattle.react.specs.Freed.{stored_most}
 use native.Mathlib.Omega.{arith}
-use borrow.Author.Rules.{rules}
-use Rattle.react.proofs.pop_saw_len.Goals.{Else-number-ne0, Start}
+use Rattle.react.proofs.pop_saw_len.Goals.{Else-number-ne0, After-stored_count-count}
 use Rattle.react.proofs.pop_saw_len.Goals as goal
 
 fine : (c : Else-number-ne0) → Out ((queue_of c.args.c ((tables_of c.args.room c.args.words.now c.args.lens.now c.args.halves.now c.args.sides.now)))) c.args.token
@@ -23,10 +22,9 @@ token_low : (c : Else-number-ne0) → (c.args.token < c.args.c.n) × (c.args.c.n
 token_low c =
     ((fine c).below, (small c.args.c c.args.room c.args.words.now c.args.lens.now c.args.halves.now c.args.sides.now c.requires).1)
 
-counted : (c : lts.After-stored-count claims reads.Pre reads.Post) → c.stored-count.result ≡ stored_count (queue c.before.before.before.before.before.before.before.before.before.before.before.before.before.before) c.before.before.before.before.before.before.before.before.before.before.before.before.before.before.args.token
+counted : (c : After-stored_count-count) → c.stored_count-count.result ≡ stored_count (queue_of c.args.c (tables_of c.args.room c.args.words.now c.args.lens.now c.args.halves.now c.args.sides.now)) c.args.token
 counted c =
-    let s : Start = c.before.before.before.before.before.before.before.before.before.before.before.before.before.before in
-    count_is ((queue_of s.args.c ((tables_of s.args.room s.args.words.now s.args.lens.now s.args.halves.now s.args.sides.now)))) s.args.token c.before.noted-at.result c.stored-count.result c.before.before.before.desc-at.result (c.before.before.before.desc-at.ensures s.args.sides.now) (c.before.noted-at.ensures s.args.words.now s.args.lens.now s.args.sides.now) c.stored-count.ensures
+    count_is (queue_of c.args.c (tables_of c.args.room c.args.words.now c.args.lens.now c.args.halves.now c.args.sides.now)) c.args.token c.noted_at.result c.stored_count-count.result c.desc_at.result (c.desc_at.ensures c.args.sides.now) (c.noted_at.ensures c.args.words.now c.args.lens.now c.args.sides.now) c.stored_count-count.ensures
 
 pub returns-then-number-ne0 : goal.returns-then-number-ne0
 returns-then-number-ne0 c =
@@ -54,18 +52,18 @@ free_chain-core-requires c = record { ready = c.requires; out = fine (goal.at.fr
 
 pub store_steps-requires : goal.store_steps-requires
 store_steps-requires c =
-    stored_most c.args.c c.args.room c.args.words.now c.args.lens.now c.args.halves.now c.args.sides.now c.requires c.args.token (fine (goal.at.store_steps-requires c).Else-number-ne0) c.stored_count-count.result (counted c)
+    stored_most c.args.c c.args.room c.args.words.now c.args.lens.now c.args.halves.now c.args.sides.now c.requires c.args.token (fine (goal.at.store_steps-requires c).Else-number-ne0) c.stored_count-count.result (counted (goal.at.store_steps-requires c).After-stored_count-count)
 
 pub returns-then-store_steps-eq0 : goal.returns-then-store_steps-eq0
 returns-then-store_steps-eq0 c =
     let f : _ = c.free_chain-core in
     let t : Tables = tables_of c.args.room f.new.words f.new.lens f.new.halves f.new.sides in
     ap (λ (r : Reacted). reacted_of r t) c.ends-then-store_steps-eq0.ensures
-    ∙ pop_ends ((queue_of c.args.c ((tables_of c.args.room c.args.words.now c.args.lens.now c.args.halves.now c.args.sides.now)))) c.args.token c.args.id c.args.len c.verdict-number.result c.args.matched (c.verdict-number.ensures c.args.words.now c.args.lens.now c.args.sides.now) (queue_of f.result t) c.stored_count-count.result c.store_steps.result c.if-number-ne0.false f.ensures (counted c) c.store_steps.ensures c.if-store_steps-eq0.true
+    ∙ pop_ends ((queue_of c.args.c ((tables_of c.args.room c.args.words.now c.args.lens.now c.args.halves.now c.args.sides.now)))) c.args.token c.args.id c.args.len c.verdict-number.result c.args.matched (c.verdict-number.ensures c.args.words.now c.args.lens.now c.args.sides.now) (queue_of f.result t) c.stored_count-count.result c.store_steps.result c.if-number-ne0.false f.ensures (counted (goal.at.returns-then-store_steps-eq0 c).After-stored_count-count) c.store_steps.ensures c.if-store_steps-eq0.true
 
 pub returns-else-store_steps-eq0 : goal.returns-else-store_steps-eq0
 returns-else-store_steps-eq0 c =
     let f : _ = c.free_chain-core in
     let t : Tables = tables_of c.args.room f.new.words f.new.lens f.new.halves f.new.sides in
     ap (λ (r : Reacted). reacted_of r t) c.goes_on.ensures
-    ∙ pop_goes ((queue_of c.args.c ((tables_of c.args.room c.args.words.now c.args.lens.now c.args.halves.now c.args.sides.now)))) c.args.token c.args.id c.args.len c.verdict-number.result c.args.matched (c.verdict-number.ensures c.args.words.now c.args.lens.now c.args.sides.now) (queue_of f.result t) c.stored_count-count.result c.store_steps.result c.if-number-ne0.false f.ensures (counted c) c.store_steps.ensures c.if-store_steps-eq0.false
+    ∙ pop_goes ((queue_of c.args.c ((tables_of c.args.room c.args.words.now c.args.lens.now c.args.halves.now c.args.sides.now)))) c.args.token c.args.id c.args.len c.verdict-number.result c.args.matched (c.verdict-number.ensures c.args.words.now c.args.lens.now c.args.sides.now) (queue_of f.result t) c.stored_count-count.result c.store_steps.result c.if-number-ne0.false f.ensures (counted (goal.at.returns-else-store_steps-eq0 c).After-stored_count-count) c.store_steps.ensures c.if-store_steps-eq0.false

@@ -5,7 +5,6 @@ use Rattle.react.specs.declared.Reacted.{Reacted}
 use Rattle.react.specs.Reactions.{reacted_of}
 use Rattle.views.specs.Tables.{queue_of}
 use Rattle.react.specs.Cases.{store_goes, store_ends}
-use borrow.Author.Rules.{rules}
 use Rattle.react.proofs.pop_stored.Goals as goal
 
 pub returns-then-step-store_steps : goal.returns-then-step-store_steps

@@ -1,5 +1,4 @@
 -- `react::publish` meets its contract: the fields as they are stored.
-use borrow.Author.Rules.{rules}
 use Rattle.react.proofs.publish.Goals as goal
 
 pub returns : goal.returns

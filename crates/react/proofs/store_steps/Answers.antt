@@ -1,6 +1,5 @@
 -- `react::store_steps` meets its contract, case by case.
 use native.Mathlib.Omega.{arith}
-use borrow.Author.Rules.{rules}
 use Rattle.react.proofs.store_steps.Goals as goal
 
 pub returns-then-event : goal.returns-then-event

@@ -1,10 +1,8 @@
 -- `react::verdict` meets its contract: the tests in the rule's order.
 use mathlib.Core.Path.{sym, ◌∙◌}
 use native.Mathlib.Omega.{arith}
-use borrow.Author.Tests.{not-true, not-false}
 use Rattle.views.specs.Tables.{tables_of, queue_of}
 use Rattle.react.specs.Cases.{wrong_token, no_descriptor, no_chain, no_match, all_fine}
-use borrow.Author.Rules.{rules}
 use Rattle.react.proofs.verdict.Goals as goal
 
 pub returns-then-id-token : goal.returns-then-id-token
@@ -25,9 +23,9 @@ returns-then-noted_at-eq0 c =
 pub returns-then-not-matched : goal.returns-then-not-matched
 returns-then-not-matched c =
     let s : _ = c.args in
-    λ words lens sides. no_match (queue_of s.c (tables_of s.room words lens s.halves.now sides)) s.token s.id s.matched c.if-id-token.false (omega arith) (λ z. c.if-noted_at-eq0.false (c.noted_at.ensures words lens sides ∙ z)) (not-true s.matched c.if-not-matched.true-raw)
+    λ words lens sides. no_match (queue_of s.c (tables_of s.room words lens s.halves.now sides)) s.token s.id s.matched c.if-id-token.false (omega arith) (λ z. c.if-noted_at-eq0.false (c.noted_at.ensures words lens sides ∙ z)) c.if-not-matched.true
 
 pub returns : goal.returns
 returns c =
     let s : _ = c.args in
-    λ words lens sides. all_fine (queue_of s.c (tables_of s.room words lens s.halves.now sides)) s.token s.id s.matched c.if-id-token.false (omega arith) (λ z. c.if-noted_at-eq0.false (c.noted_at.ensures words lens sides ∙ z)) (not-false s.matched c.if-not-matched.false-raw)
+    λ words lens sides. all_fine (queue_of s.c (tables_of s.room words lens s.halves.now sides)) s.token s.id s.matched c.if-id-token.false (omega arith) (λ z. c.if-noted_at-eq0.false (c.noted_at.ensures words lens sides ∙ z)) c.if-not-matched.false

@@ -3,12 +3,11 @@ use mathlib.Core.Path.{◌≡◌, refl, sym, ◌∙◌}
 use mathlib.Core.Bool.{true, false}
 use Prim.Native.Nat.{ℕ, ◌+◌, ◌-◌, ◌*◌, ◌≤◌}
 use native.Mathlib.Omega.{arith}
-use borrow.Author.Rules.{rules}
 use borrow.Author.Tests.{not-true, not-false, leb-true}
 use lib.Dec.{leb}
-use lib.ListN.{length, get_or, drop}
+use lib.ListN.{get_or}
 use Rattle.lists.specs.Tests.{and_left}
-use Rattle.text.specs.Text.{digit, digits_in}
+use Rattle.text.specs.Text.{digit}
 use Rattle.text.specs.Laws.{digits_over, digits_stop, digits_wide, digits-next}
 use Rattle.text.proofs.digits.Goals as goal
 

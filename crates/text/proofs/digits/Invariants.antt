@@ -1,15 +1,8 @@
 -- `text::digits` meets its contract: what the digits from the start on say is what those from i on say after the number so far.
-use mathlib.Core.Path.{◌≡◌, refl, sym, ◌∙◌}
-use mathlib.Core.Bool.{true, false}
-use Prim.Native.Nat.{ℕ, ◌+◌, ◌-◌, ◌*◌, ◌≤◌}
-use native.Mathlib.Omega.{arith}
-use borrow.Author.Rules.{rules}
-use borrow.Author.Tests.{not-true, not-false, leb-true}
-use lib.Dec.{leb}
-use lib.ListN.{length, get_or, drop}
-use Rattle.lists.specs.Tests.{and_left}
-use Rattle.text.specs.Text.{digit, digits_in}
-use Rattle.text.specs.Laws.{digits_over, digits_stop, digits_wide, digits-next}
+use mathlib.Core.Path.{◌≡◌}
+use Prim.Native.Nat.{◌-◌}
+use lib.ListN.{length, drop}
+use Rattle.text.specs.Text.{digits_in}
 use Rattle.text.proofs.digits.Given as goal
 
 abbrev pub invariant-loop-i : goal.invariant-loop-i

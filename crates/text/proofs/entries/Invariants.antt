@@ -1,18 +1,11 @@
 -- `text::entries` meets its contract: what the line comes to from the start on is what it comes to from p on, behind the buffers read so far.
-use mathlib.Core.Path.{◌≡◌, refl, sym, ap, ◌∙◌}
-use mathlib.Core.Bool.{Bool, true, false, not}
-use mathlib.Core.List.{List, [], ◌∷◌, ◌++◌}
-use Prim.Native.Nat.{ℕ, ◌+◌, ◌-◌, ◌≤◌}
-use native.Mathlib.Omega.{arith}
-use borrow.Author.Rules.{rules}
-use borrow.Author.Tests.{not-true, not-false}
+use mathlib.Core.Path.{◌≡◌}
+use mathlib.Core.Bool.{not}
+use Prim.Native.Nat.{◌+◌, ◌≤◌}
 use lib.Dec.{eqb}
-use lib.ListN.{length, set, length-set}
-use Rattle.virtio.specs.declared.Buffer.{Buffer}
-use Rattle.text.specs.Words.{comma}
-use Rattle.text.specs.Text.{stands, list_end, entries}
-use Rattle.text.specs.Laws.{stands_fits}
-use Rattle.text.specs.Turns.{so_far, buffer, held_more, entries_over, entries_bad, entries-last, entries_next, lists_by, lists_wrong, lists_end}
+use lib.ListN.{length}
+use Rattle.text.specs.Text.{entries}
+use Rattle.text.specs.Turns.{so_far}
 use Rattle.text.proofs.entries.Given as goal
 
 abbrev pub invariant-loop-left : goal.invariant-loop-left

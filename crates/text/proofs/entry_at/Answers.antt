@@ -1,5 +1,4 @@
 -- `text::entry_at` meets its contract: the address, then the colon, then the length.
-use mathlib.Core.Logic.{⊎_elim}
 use mathlib.Core.Path.{◌≡◌, sym, ◌∙◌, subst}
 use mathlib.Core.Bool.{true}
 use Prim.Native.Nat.{ℕ, ◌+◌, ◌≤◌}
@@ -10,8 +9,8 @@ use Rattle.text.specs.Words.{colon}
 use Rattle.text.specs.Text.{stands}
 use Rattle.text.specs.Laws.{stands_fits, number_most}
 use Rattle.text.specs.Lines.{entry_no_number, entry_no_colon, entry_good}
-use borrow.Author.Rules.{rules}
 use Rattle.text.proofs.entry_at.Goals as goal
+use Rattle.text.proofs.entry_at.Goals.{else-a-via-then-a+else-stands, else-a-via-else-a}
 
 pub overflow_add-a : goal.overflow_add-a
 overflow_add-a c =
@@ -42,7 +41,8 @@ pub returns : goal.returns
 returns c =
     let s : _ = c.args in
     let a : _ = c.number_at-a in
-    ⊎_elim
-    (λ w. entry_no_colon s.src.now s.at a.result a.ensures w.0.taken (sym w.2.ensures ∙ w.3.left))
-    (λ w. entry_no_number s.src.now s.at a.result a.ensures w.left)
-    c.else-a.branch
+    elim c.else-a.branch [
+      | else-a-via-then-a+else-stands w ↦
+          entry_no_colon s.src.now s.at a.result a.ensures w.if-a.true (sym w.stands.ensures ∙ w.if-stands.false)
+      | else-a-via-else-a w ↦ entry_no_number s.src.now s.at a.result a.ensures w.if-a.false
+    ]

@@ -10,7 +10,6 @@ use Rattle.text.specs.Words.{newline}
 use Rattle.text.specs.Text.{stands}
 use Rattle.text.specs.Laws.{stands_fits}
 use Rattle.text.specs.Lines.{field_no_key, field_no_number, field_no_end, field_good}
-use borrow.Author.Rules.{rules}
 use Rattle.text.proofs.field.Goals as goal
 
 pub returns-then-not-stands : goal.returns-then-not-stands

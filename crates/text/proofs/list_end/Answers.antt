@@ -8,7 +8,6 @@ use Rattle.text.specs.Words.{newline}
 use Rattle.text.specs.Text.{stands}
 use Rattle.text.specs.Laws.{stands_fits}
 use Rattle.text.specs.Lines.{end_good, end_wrong}
-use borrow.Author.Rules.{rules}
 use Rattle.text.proofs.list_end.Goals as goal
 
 pub overflow_add-result : goal.overflow_add-result

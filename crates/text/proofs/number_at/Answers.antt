@@ -5,7 +5,6 @@ use native.Mathlib.Omega.{arith}
 use lib.ListN.{get_or}
 use Rattle.text.specs.Text.{digit}
 use Rattle.text.specs.Laws.{number_over, number_zero, number_digits, number_bad}
-use borrow.Author.Rules.{rules}
 use Rattle.text.proofs.number_at.Goals as goal
 
 pub returns-then-src-at : goal.returns-then-src-at

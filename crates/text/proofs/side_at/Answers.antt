@@ -12,7 +12,6 @@ use Rattle.text.specs.Text.{stands}
 use Rattle.text.specs.Laws.{stands_fits}
 use Rattle.text.specs.Lines.{side_of, side_no_key, side_word, side-nothing, side-entries}
 use Rattle.text.specs.Turns.{lists_by, lists_wrong, lists-good}
-use borrow.Author.Rules.{rules}
 use Rattle.text.proofs.side_at.Goals as goal
 
 pub returns-then-not-stands : goal.returns-then-not-stands

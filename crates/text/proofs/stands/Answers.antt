@@ -1,10 +1,6 @@
 -- `text::stands` meets its contract: whether the word stands is whether the rest of it stands further on.
-use mathlib.Core.Path.{◌≡◌, refl, sym, ◌∙◌}
-use Prim.Native.Nat.{◌-◌}
+use mathlib.Core.Path.{refl, sym, ◌∙◌}
 use native.Mathlib.Omega.{arith}
-use borrow.Author.Rules.{rules}
-use lib.ListN.{length, drop}
-use Rattle.text.specs.Text.{starts}
 use Rattle.text.specs.Laws.{word_over, word_short, word_other, word_next}
 use Rattle.text.proofs.stands.Goals as goal
 

@@ -1,11 +1,8 @@
 -- `text::stands` meets its contract: whether the word stands is whether the rest of it stands further on.
-use mathlib.Core.Path.{◌≡◌, refl, sym, ◌∙◌}
+use mathlib.Core.Path.{◌≡◌}
 use Prim.Native.Nat.{◌-◌}
-use native.Mathlib.Omega.{arith}
-use borrow.Author.Rules.{rules}
 use lib.ListN.{length, drop}
 use Rattle.text.specs.Text.{starts}
-use Rattle.text.specs.Laws.{word_over, word_short, word_other, word_next}
 use Rattle.text.proofs.stands.Given as goal
 
 abbrev pub invariant-loop-i : goal.invariant-loop-i
