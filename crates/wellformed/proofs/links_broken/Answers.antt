@@ -8,7 +8,6 @@ use Rattle.lists.specs.Pick.{every}
 use Rattle.views.specs.Views.{at}
 use Rattle.chains.specs.Links.{names, ends_at}
 use Rattle.wellformed.specs.Groups.{by_unnamed, by_named}
-use borrow.Author.Rules.{rules}
 use Rattle.wellformed.proofs.links_broken.Goals as goal
 
 pub returns-then-c : goal.returns-then-c

@@ -1,5 +1,4 @@
 -- The answer is the rule's clause on the base, by the mode: in indirect mode what `base_ok` says of the pool's size, else whether the base is 0.
-use borrow.Author.Rules.{rules}
 use Rattle.wellformed.proofs.pool_base_ok.Goals as goal
 
 pub returns-then-indirect : goal.returns-then-indirect

@@ -1,5 +1,4 @@
 -- `wellformed::unnamed` meets its contract: by what `nexts_below` tells.
-use borrow.Author.Rules.{rules}
 use Rattle.wellformed.proofs.unnamed.Goals as goal
 
 pub returns-then-nexts_below : goal.returns-then-nexts_below
