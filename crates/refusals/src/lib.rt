@@ -1,5 +1,7 @@
 // By which number a call is refused (document 01, "When the queue says no"), in 01's order: the record, the regions, an open call, and for an add its list
 // and the room for it.
+#![tactic(auto)]
+
 ghost use Rattle.std.specs.Prelude.{◌≡◌};
 ghost use Rattle.lists.specs.Pick.{first};
 ghost use Rattle.rules.specs.Record.{is_open};
