@@ -12,6 +12,9 @@ NO_NAMES = ("use", "mod", "unfolding", "where", "let", "in", "elim")
 ENGLISH = {"well-formed", "single-step", "by-value", "must-fail"}
 # Names whose plain respelling would be another definition's name.
 CHOSEN = {
+    "ListedSame": "listed_same",
+    "field_own": "own_at",
+    "Ready-on": "ready_on",
     "in-turn": "in_turn_lem",
     "list-of": "list_of_lem",
     "tables-of": "tables_of_lem",
@@ -59,27 +62,30 @@ def code_of(line):
 
 def declared(path):
     """The names that a file declares: at the margin, or as fields and constructors of a data or record."""
-    names, inside = set(), False
-    for line in open(path):
-        line = code_of(line.rstrip("\n"))
+    names = set()
+    lines = [code_of(line.rstrip("\n")) for line in open(path)]
+    for line, then in zip(lines, lines[1:] + [""]):
         if not line:
             continue
         if not line[0].isspace():
             rest = MODIFIERS.sub("", line)
             m = WORD.match(rest)
-            inside = line.rstrip().endswith("where")
             if m and m.group(0) not in NO_NAMES and not re.match(r"(pub )?(use|mod) ", line):
                 names.add(m.group(0))
-        elif inside:
+        else:  # a field, a constructor, or a declaration of a module with parameters
             m = re.match(r"\s+(?:pub )?([^\s:(){}]+(?: [^\s:(){}]+)*)\s*:", line)
+            if not m and re.match(r"\s+:\s", then):
+                m = re.match(r"\s+(?:pub )?([^\s:(){}]+(?: [^\s:(){}]+)*)\s*$", line)
             if m:
-                names.update(w for w in m.group(1).split() if WORD.fullmatch(w))
+                words = m.group(1).split()
+                if not set(words) & {"let", "in", "elim", "λ", "rw"}:
+                    names.update(w for w in words if WORD.fullmatch(w))
     return names
 
 
 def goals(path):
-    """The names of a proof file that are goals which Rattle names: 'NAME : tie.Need-..'."""
-    return set(re.findall(r"^(?:pub )?(\S+) : tie\.", open(path).read(), re.M))
+    """The names of a proof file that are goals which Rattle names: 'NAME : tie.Need-..', 'NAME : goal.NAME'."""
+    return set(re.findall(r"^(?:abbrev |pub )*(\S+) :\s+(?:tie|goal)\.", open(path).read(), re.M))
 
 
 def aliases():
@@ -101,6 +107,8 @@ def pairs():
     for n in found:
         if "-" in n and n not in CHOSEN and found[n] in capital:
             found[n] += "_lem"
+    # Names that port.py mistook for words of the library.
+    found.update({n: CHOSEN[n] for n in ("ListedSame", "Ready-on", "field_own") if n in own})
     return {a: b for a, b in found.items() if a != b}, own, made
 
 
@@ -121,7 +129,7 @@ def main():
         return
     for path in antt_files() + sorted(glob.glob("crates/*/src/*.rt") + glob.glob("crates/*/must-fail/*.edit")):
         local = {**names, **CHOSEN_IN.get(path, {})}
-        if path.endswith("Proof.antt"):
+        if path.endswith(("Proof.antt", "Answers.antt", "Invariants.antt")):
             for n in goals(path):
                 local.pop(n, None)
         mark = "--" if path.endswith(".antt") else "//" if path.endswith(".rt") else "#"

@@ -37,14 +37,14 @@ module _ (q : Queue) (h : ℕ) (x : Desc) (e : x ≡ desc_of q h) where
         }))
         ∙ rw (listed_head f)
 
-    pub direct-case
+    pub direct_case
         : (at : ℕ) (d y : Desc)
         → (x.flags / 4 % 2 ≡ 1 → ⊥)
         → at ≡ hop (next_of q) i h
         → d ≡ desc_of q at
         → y ≡ with_next d
         → store_desc (desc at) y ≡ buffer_store q h i
-    direct-case at d y f u v z =
+    direct_case at d y f u v z =
         (λ j. store_desc (desc (u j)) ((z ∙ ap with_next (v ∙ ap (desc_of q) u)) j)) ∙ rw (direct_head f)
 
 -- ---- the accesses of an add and of a pop

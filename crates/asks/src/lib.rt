@@ -1,5 +1,7 @@
 // The queue's calls of a single step over lent words and bytes (document 01, "Rules of the calls", "When the queue says no"), apart from crate queue so that
 // an edit of them is soon tried; and what every call over lent words answers.
+#![tactic(auto)]
+
 ghost use Rattle.std.specs.Prelude.{◌≡◌, cond};
 ghost use Rattle.lists.specs.Pick.{one_if};
 ghost use Rattle.rules.specs.Calls.{can_pop, should_notify, set_dev_notify};

@@ -111,12 +111,12 @@ module _
     add_back bs e =
         back (add (abs before) m bs) (e ∙ ap (λ (k : Queue). add (abs k) m bs) got) (add_idle (abs before) m (good_of before a i) idle bs)
 
-    pub pop-back : (t : ℕ) (bs : List Buffer) → answer_of r m' ≡ pop_used (abs q) m t bs → answer_of (with_queue r after) m' ≡ pop_used (abs before) m t bs
-    pop-back t bs e =
+    pub pop_back : (t : ℕ) (bs : List Buffer) → answer_of r m' ≡ pop_used (abs q) m t bs → answer_of (with_queue r after) m' ≡ pop_used (abs before) m t bs
+    pop_back t bs e =
         back (pop_used (abs before) m t bs) (e ∙ ap (λ (k : Queue). pop_used (abs k) m t bs) got) (pop_idle (abs before) m (good_of before a i) idle t bs)
 
-    pub peek-back : answer_of r m' ≡ peek_used (abs q) m → answer_of (with_queue r after) m' ≡ peek_used (abs before) m
-    peek-back e =
+    pub peek_back : answer_of r m' ≡ peek_used (abs q) m → answer_of (with_queue r after) m' ≡ peek_used (abs before) m
+    peek_back e =
         back (peek_used (abs before) m) (e ∙ ap (λ (k : Queue). peek_used (abs k) m) got) (peek_idle (abs before) m (good_of before a i) idle)
 
 pub new_back : (k : rule.Ask) (r : Made) (after : Queue) (m m' : Memory) → after ≡ queue_of (flat_of r.queue) → made_of r m' ≡ new k m → made_of (made_with r after) m' ≡ new k m

@@ -33,13 +33,13 @@ module _ (r s : LentAnswer) (words lens halves words' lens' halves' : List ℕ) 
   abbrev pub second : Answer
   second = lent_is s words' lens' halves' sides'
 
-  pub lent-answer-one
+  pub lent_answer_one
       : (m l : Memory)
       → Arrays first.queue
       → Arrays second.queue
       → answer_of first m ≡ answer_of second l
       → (r ≡ s) × (m ≡ l) × (words ≡ words') × (lens ≡ lens') × (halves ≡ halves') × (sides ≡ sides')
-  lent-answer-one m l a b e =
+  lent_answer_one m l a b e =
       let o = answer_one first second m l a b e in
       let p : first ≡ second = o.0 in (
         ap lent_of p,

@@ -34,7 +34,7 @@ pub record Addable (q : Queue) (bs : List Buffer) : Type 0 where
   pub filled : no_empty bs ≡ true
 
 -- an indirect head whose descriptor stays refers to its list as before
-pub ListedSame
+pub listed_same
     : (q r : Queue) (h : ℕ)
     → r.n ≡ q.n
     → r.modes ≡ q.modes
@@ -42,7 +42,7 @@ pub ListedSame
     → desc_of r h ≡ desc_of q h
     → Listed q h
     → Listed r h
-ListedSame q r h n m b e l =
+listed_same q r h n m b e l =
     let len : (desc_of r h).len ≡ (desc_of q h).len = ap (λ (x : Desc). x.len) e in
     let entries : entries_of r h ≡ entries_of q h = ap (λ (x : Desc). x.len / 16) e in
     let two : 2 ≤ entries_of q h = l.two in
@@ -112,21 +112,21 @@ module _ (q : Queue) (bs : List Buffer) (s : Held q) (w : WellFormed q) (a : Add
   abbrev rest : List ℕ
   rest = walk next (q.n - (q.counts.used + k)) (hop next k head)
 
-  free-split : free_list q ≡ taken ++ rest
-  free-split =
+  free_split : free_list q ≡ taken ++ rest
+  free_split =
       let l : q.counts.used + k ≤ q.n = room in
       let e : q.n - q.counts.used ≡ k + (q.n - (q.counts.used + k)) = omega arith in
       ap (λ m. walk next m head) e ∙ walk_split next k (q.n - (q.counts.used + k)) head
 
-  chain-new : chain_of r head ≡ taken
-  chain-new = ap₂ (λ (f : ℕ → ℕ) (m : ℕ). walk f m head) nexts noted_new
+  chain_new : chain_of r head ≡ taken
+  chain_new = ap₂ (λ (f : ℕ → ℕ) (m : ℕ). walk f m head) nexts noted_new
 
   free_new : free_list r ≡ rest
   free_new = ap (λ (f : ℕ → ℕ). walk f (q.n - (q.counts.used + k)) (hop next k head)) nexts
 
   -- THE LAW: the free list was the new chain, and then what is free now
-  pub direct-takes : free_list q ≡ chain_of (add_direct q bs) q.counts.free ++ free_list (add_direct q bs)
-  direct-takes = free-split ∙ ap₂ (λ (x y : List ℕ). x ++ y) (sym chain-new) (sym free_new)
+  pub direct_takes : free_list q ≡ chain_of (add_direct q bs) q.counts.free ++ free_list (add_direct q bs)
+  direct_takes = free_split ∙ ap₂ (λ (x y : List ℕ). x ++ y) (sym chain_new) (sym free_new)
 
   -- ---- where each descriptor is
 
@@ -134,39 +134,39 @@ module _ (q : Queue) (bs : List Buffer) (s : Held q) (w : WellFormed q) (a : Add
   abbrev chained : ℕ → ℕ
   chained i = count i (walks next (noted_of q) q.n 0)
 
-  free-count : (i : ℕ) → count i (free_list q) ≡ count i taken + count i rest
-  free-count i = ap (count i) free-split ∙ count_append i taken rest
+  free_count : (i : ℕ) → count i (free_list q) ≡ count i taken + count i rest
+  free_count i = ap (count i) free_split ∙ count_append i taken rest
 
   pub taken_free : (i : ℕ) → count i (walk (next_of q) (length bs) q.counts.free) ≤ count i (free_list q)
-  taken_free i = let e : count i (free_list q) ≡ count i taken + count i rest = free-count i in omega arith
+  taken_free i = let e : count i (free_list q) ≡ count i taken + count i rest = free_count i in omega arith
 
-  all-count : (i : ℕ) → i < q.n → count i taken + count i rest + chained i ≡ 1
-  all-count i l =
+  all_count : (i : ℕ) → i < q.n → count i taken + count i rest + chained i ≡ 1
+  all_count i l =
       let e : count i (named q) ≡ 1 = w.once.each i l in
       let f : count i (named q) ≡ count i (free_list q) + chained i = count_append i (free_list q) (walks next (noted_of q) q.n 0) in
-      let g : count i (free_list q) ≡ count i taken + count i rest = free-count i in
+      let g : count i (free_list q) ≡ count i taken + count i rest = free_count i in
       omega arith
 
   -- a descriptor of an outstanding chain is not taken
   not_taken : (h j : ℕ) → Out q h → j < noted_of q h → count (hop next j h) taken ≡ 0
   not_taken h j o l =
       let b : h < q.n = o.below in
-      let e : count (hop next j h) taken + count (hop next j h) rest + chained (hop next j h) ≡ 1 = all-count (hop next j h) (hop_below next q.n w.nexts j h b) in
+      let e : count (hop next j h) taken + count (hop next j h) rest + chained (hop next j h) ≡ 1 = all_count (hop next j h) (hop_below next q.n w.nexts j h b) in
       let f : 1 ≤ count (hop next j h) (walk next (noted_of q h) h) = on_walk next (noted_of q h) h j l in
       let g : count (hop next j h) (walk next (noted_of q h) h) ≤ chained (hop next j h) = in_walks next (noted_of q) (hop next j h) q.n 0 h (omega arith) (omega arith) in
       omega arith
 
   -- so the free head, which is taken, headed none
-  head-taken : 1 ≤ count head taken
+  head_taken : 1 ≤ count head taken
   unfolding hop
-  head-taken = on_walk next k head 0 some
+  head_taken = on_walk next k head 0 some
 
   head_none : noted_of q head ≡ 0
   unfolding hop
   head_none =
       by_eq (noted_of q head) 0 (λ e. e)
       (λ e. absurd (let z : count head taken ≡ 0 = not_taken head 0 (record { below = w.free; noted = e }) (omega arith) in
-      let t : 1 ≤ count head taken = head-taken in
+      let t : 1 ≤ count head taken = head_taken in
       omega arith))
 
   -- ---- what the descriptors say
@@ -176,24 +176,24 @@ module _ (q : Queue) (bs : List Buffer) (s : Held q) (w : WellFormed q) (a : Add
       ≡ filled (get_or bs j no_buffer) (more? (drop (suc j) bs)) (next_of q (hop (next_of q) j q.counts.free))
   desc_new =
       fill_at next q.n q.tables.shadow head bs s.shadow (λ j. refl) (walk_below next q.n w.nexts k head w.free)
-      (λ i l. let e = all-count i l in omega arith)
+      (λ i l. let e = all_count i l in omega arith)
 
   desc_other : (h j : ℕ) → Out q h → j < noted_of q h → desc_of r (hop next j h) ≡ desc_of q (hop next j h)
   desc_other h j o l =
       fill_other next q.tables.shadow head bs (λ i. refl) (hop next j h) (not_taken h j o l)
 
-  desc-head : desc_of r head ≡ filled (get_or bs 0 no_buffer) (more? (drop 1 bs)) (next head)
+  desc_head : desc_of r head ≡ filled (get_or bs 0 no_buffer) (more? (drop 1 bs)) (next head)
   unfolding hop
-  desc-head = desc_new 0 some
+  desc_head = desc_new 0 some
 
   head_direct : is_indirect r head ≡ false
-  head_direct = ap has_indirect desc-head ∙ filled_direct (get_or bs 0 no_buffer) (more? (drop 1 bs)) (next head)
+  head_direct = ap has_indirect desc_head ∙ filled_direct (get_or bs 0 no_buffer) (more? (drop 1 bs)) (next head)
 
   -- THE LAW: the list given is outstanding under the head
-  pub direct-adds : buffers_of (add_direct q bs) q.counts.free ≡ bs
-  direct-adds =
+  pub direct_adds : buffers_of (add_direct q bs) q.counts.free ≡ bs
+  direct_adds =
       ap (λ t. cond t (run_of no_buffer q.tables.kept (q.n * head) (entries_of r head)) (map (λ i. buffer_of (desc_of r i)) (chain_of r head))) head_direct
-      ∙ ap (map (λ i. buffer_of (desc_of r i))) chain-new
+      ∙ ap (map (λ i. buffer_of (desc_of r i))) chain_new
       ∙ map_walk next (λ i. buffer_of (desc_of r i)) no_buffer bs head
       (λ j l. ap buffer_of (desc_new j l) ∙ filled_buffer (get_or bs j no_buffer) (more? (drop (suc j) bs)) (next (hop next j head)))
 
@@ -217,8 +217,8 @@ module _ (q : Queue) (bs : List Buffer) (s : Held q) (w : WellFormed q) (a : Add
         ∙ map_alike next (λ i. buffer_of (desc_of r i)) (λ i. buffer_of (desc_of q i)) (noted_of q h) h (λ j l. ap buffer_of (desc_other h j o l)))
 
   -- THE LAW: every other chain, list and noted length is as it was
-  pub direct-others : (h : ℕ) → Out q h → (chain_of (add_direct q bs) h ≡ chain_of q h) × (buffers_of (add_direct q bs) h ≡ buffers_of q h) × (noted_of (add_direct q bs) h ≡ noted_of q h)
-  direct-others h o = (chain_other h o, buffers_other h o, noted_other h (not_head h o))
+  pub direct_others : (h : ℕ) → Out q h → (chain_of (add_direct q bs) h ≡ chain_of q h) × (buffers_of (add_direct q bs) h ≡ buffers_of q h) × (noted_of (add_direct q bs) h ≡ noted_of q h)
+  direct_others h o = (chain_other h o, buffers_other h o, noted_other h (not_head h o))
 
   -- ---- the clauses
 
@@ -244,7 +244,7 @@ module _ (q : Queue) (bs : List Buffer) (s : Held q) (w : WellFormed q) (a : Add
 
   once_new : Once q.n (named r)
   once_new = record {
-    each = λ i l. (let e = named_count i in let f = all-count i l in omega arith);
+    each = λ i l. (let e = named_count i in let f = all_count i l in omega arith);
     only =
         below_append q.n (free_list r) (walks (next_of r) (noted_of r) q.n 0)
         (walk_below (next_of r) q.n next_below (q.n - (q.counts.used + k)) (hop next k head) free_below)
@@ -252,8 +252,8 @@ module _ (q : Queue) (bs : List Buffer) (s : Held q) (w : WellFormed q) (a : Add
   }
 
   -- 6: the new chain goes on and stops as its list does
-  flag-new : (i : ℕ) → i < k → has_next (desc_of r (hop next i head)) ≡ more? (drop (suc i) bs)
-  flag-new i l =
+  flag_new : (i : ℕ) → i < k → has_next (desc_of r (hop next i head)) ≡ more? (drop (suc i) bs)
+  flag_new i l =
       ap has_next (desc_new i l) ∙ filled_next (get_or bs i no_buffer) (more? (drop (suc i) bs)) (next (hop next i head))
 
   -- whether the descriptor i links on from h says that the chain goes on
@@ -265,7 +265,7 @@ module _ (q : Queue) (bs : List Buffer) (s : Held q) (w : WellFormed q) (a : Add
       ap (λ (f : ℕ → ℕ). has_next (desc_of r (hop f i h))) nexts
       ∙ by_eq h head
       (λ e. let m : noted_of r h ≡ k = ap (noted_of r) e ∙ noted_new in
-      ap (flag i) e ∙ flag-new i (omega arith) ∙ more_on (suc i) bs (omega arith))
+      ap (flag i) e ∙ flag_new i (omega arith) ∙ more_on (suc i) bs (omega arith))
       (λ e. let m : noted_of r h ≡ noted_of q h = noted_other h e in
       ap has_next (desc_other h i (out_old h o e) (omega arith)) ∙ w.goes_on h i (out_old h o e) (omega arith))
 
@@ -274,7 +274,7 @@ module _ (q : Queue) (bs : List Buffer) (s : Held q) (w : WellFormed q) (a : Add
       ap (λ (f : ℕ → ℕ). has_next (desc_of r (hop f (noted_of r h - 1) h))) nexts
       ∙ by_eq h head
       (λ e. let l : 0 < k = some in
-      ap₂ (λ j m. flag (m - 1) j) e (ap (noted_of r) e ∙ noted_new) ∙ flag-new (k - 1) (omega arith) ∙ no_more (suc (k - 1)) bs (omega arith))
+      ap₂ (λ j m. flag (m - 1) j) e (ap (noted_of r) e ∙ noted_new) ∙ flag_new (k - 1) (omega arith) ∙ no_more (suc (k - 1)) bs (omega arith))
       (λ e. let n : (noted_of q h ≡ 0 → ⊥) = (out_old h o e).noted in
       ap (λ m. flag (m - 1) h) (noted_other h e) ∙ ap has_next (desc_other h (noted_of q h - 1) (out_old h o e) (omega arith)) ∙ w.stops h (out_old h o e))
 
@@ -283,21 +283,21 @@ module _ (q : Queue) (bs : List Buffer) (s : Held q) (w : WellFormed q) (a : Add
   listed_new h o i =
       by_eq h head
       (λ e. absurd (true≢false (sym i ∙ ap (is_indirect r) e ∙ head_direct)))
-      (λ e. ListedSame q r h refl refl refl (desc_first h (out_old h o e)) (w.listed h (out_old h o e) (ap has_indirect (sym (desc_first h (out_old h o e))) ∙ i)))
+      (λ e. listed_same q r h refl refl refl (desc_first h (out_old h o e)) (w.listed h (out_old h o e) (ap has_indirect (sym (desc_first h (out_old h o e))) ∙ i)))
 
   -- 8: the list given is sound
-  sound-given : Sound bs
-  sound-given = record { filled = filled_means bs a.filled; sides = order_means bs a.order }
+  sound_given : Sound bs
+  sound_given = record { filled = filled_means bs a.filled; sides = order_means bs a.order }
 
   sound_new : (h : ℕ) → Out r h → Sound (buffers_of r h)
   sound_new h o =
       by_eq h head
-      (λ e. subst Sound (sym (ap (buffers_of r) e ∙ direct-adds)) sound-given)
+      (λ e. subst Sound (sym (ap (buffers_of r) e ∙ direct_adds)) sound_given)
       (λ e. subst Sound (sym (buffers_other h (out_old h o e))) (w.buffers h (out_old h o e)))
 
   -- 9: one more chain is outstanding
-  more-out : out_count r ≡ 1 + out_count q
-  more-out =
+  more_out : out_count r ≡ 1 + out_count q
+  more_out =
       let b : head < q.n = w.free in
       tally_more (outstanding q) (outstanding r) head
       (ap (λ m. ltb head q.n && not (eqb m 0)) head_none ∙ and-false (ltb head q.n))
@@ -305,16 +305,16 @@ module _ (q : Queue) (bs : List Buffer) (s : Held q) (w : WellFormed q) (a : Add
       (λ j e. ap (λ m. ltb j q.n && not (eqb m 0)) (noted_other j e))
       q.n 0 (omega arith) (omega arith)
 
-  count-new : ahead q.counts.avail q.counts.last + 1 ≡ out_count r
-  count-new =
+  count_new : ahead q.counts.avail q.counts.last + 1 ≡ out_count r
+  count_new =
       let e : ahead q.counts.avail q.counts.last + one_if (is_add q.call) ≡ out_count q = w.count in
       let f : one_if (is_add q.call) ≡ 0 = ap (λ c. one_if (is_add c)) a.idle in
-      let g : out_count r ≡ 1 + out_count q = more-out in
+      let g : out_count r ≡ 1 + out_count q = more_out in
       omega arith
 
   -- THE LAW: the record opened is well formed
-  pub direct-keeps : WellFormed (add_direct q bs)
-  direct-keeps = record {
+  pub direct_keeps : WellFormed (add_direct q bs)
+  direct_keeps = record {
     size = w.size;
     pool = w.pool;
     no_pool = w.no_pool;
@@ -326,6 +326,6 @@ module _ (q : Queue) (bs : List Buffer) (s : Held q) (w : WellFormed q) (a : Add
     stops = stops_new;
     listed = listed_new;
     buffers = sound_new;
-    count = count-new;
+    count = count_new;
     call = record { head = out_new; step = omega arith };
   }

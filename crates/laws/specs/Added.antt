@@ -21,7 +21,7 @@ use Rattle.rules.specs.Meaning.{Out}
 use Rattle.rules.specs.Answer.{Outcome, refused}
 use Rattle.rules.specs.Step.{Access, store, store_desc, accessed, buffer_store, add_access, Reaction, will_go_on, ends, react, move}
 use Rattle.rules.specs.Calls.{add_refusal, add_indirect, add_opened, opened, open_add, and_then, moves, whole, add}
-use Rattle.laws.specs.AddKeeps.{Addable, direct-takes, direct-adds, direct-others}
+use Rattle.laws.specs.AddKeeps.{Addable, direct_takes, direct_adds, direct_others}
 use Rattle.laws.specs.ListKeeps.{list_takes, list_adds, list_others}
 use Rattle.laws.specs.CallKeeps.{Good}
 use Rattle.laws.specs.Opening.{addable, by_opening}
@@ -169,7 +169,7 @@ module _ (q : Queue) (m : Memory) (bs : List Buffer) (g : Good q) (e : add_refus
   -- its list, the free list, and the other chains
   opened_adds : buffers_of p head ≡ bs
   opened_adds =
-      by_opening q bs able (λ r. buffers_of r head ≡ bs) (list_adds q bs g.held g.well able) (direct-adds q bs g.held g.well able)
+      by_opening q bs able (λ r. buffers_of r head ≡ bs) (list_adds q bs g.held g.well able) (direct_adds q bs g.held g.well able)
 
   one_noted : noted_of (add_indirect q bs) head ≡ 1
   one_noted =
@@ -181,14 +181,14 @@ module _ (q : Queue) (m : Memory) (bs : List Buffer) (g : Good q) (e : add_refus
       by_opening q bs able (λ r. free_list q ≡ chain_of r head ++ free_list r)
       (λ i l. list_takes q bs g.held g.well able i l
       ∙ ap (λ j. walk (next_of (add_indirect q bs)) j head ++ free_list (add_indirect q bs)) (sym one_noted))
-      (direct-takes q bs g.held g.well able)
+      (direct_takes q bs g.held g.well able)
 
   abbrev Others : Queue → Type 0
   Others r = (h : ℕ) → Out q h → (chain_of r h ≡ chain_of q h) × (buffers_of r h ≡ buffers_of q h) × (noted_of r h ≡ noted_of q h)
 
   opened_others : Others p
   opened_others =
-      by_opening q bs able Others (list_others q bs g.held g.well able) (direct-others q bs g.held g.well able)
+      by_opening q bs able Others (list_others q bs g.held g.well able) (direct_others q bs g.held g.well able)
 
   -- every other number's noted length, whether it headed a chain or not
   abbrev Noted : Queue → Type 0

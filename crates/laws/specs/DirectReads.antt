@@ -21,7 +21,7 @@ use Rattle.rules.specs.Step.{store_desc, accessed, with_next, list_entry}
 use Rattle.rules.specs.Calls.{filled, more?, add_direct}
 use Rattle.laws.specs.FillLaws.{filled_direct, more_on, fill_links, fill_at}
 use Rattle.laws.specs.FreeLaws.{hop_low}
-use Rattle.laws.specs.AddKeeps.{Addable, direct-keeps}
+use Rattle.laws.specs.AddKeeps.{Addable, direct_keeps}
 use Rattle.laws.specs.StepKeeps.{power_most}
 use Rattle.laws.specs.CallKeeps.{Good}
 use Rattle.laws.specs.Added.{stored, published}
@@ -55,7 +55,7 @@ module _ (q : Queue) (m : Memory) (bs : List Buffer) (g : Good q) (a : Addable q
   next = next_of p
 
   well : WellFormed p
-  well = direct-keeps q bs g.held g.well a d
+  well = direct_keeps q bs g.held g.well a d
 
   noted : noted_of p head ≡ k
   noted =
@@ -65,8 +65,8 @@ module _ (q : Queue) (m : Memory) (bs : List Buffer) (g : Good q) (a : Addable q
   low j = hop_low p well head j g.well.free
 
   -- the new chain names no descriptor twice, and holds the list
-  chain-once : (x : ℕ) → x < q.n → count x (walk next k head) ≤ 1
-  chain-once x l =
+  chain_once : (x : ℕ) → x < q.n → count x (walk next k head) ≤ 1
+  chain_once x l =
       let b : head < q.n = g.well.free in
       let e : count x (named p) ≡ 1 = well.once.each x l in
       let s : count x (named p) ≡ count x (free_list p) + count x (walks next (noted_of p) q.n 0) = count_append x (free_list p) (walks next (noted_of p) q.n 0) in
@@ -74,13 +74,13 @@ module _ (q : Queue) (m : Memory) (bs : List Buffer) (g : Good q) (a : Addable q
       let t : count x (walk next (noted_of p head) head) ≡ count x (walk next k head) = ap (λ j. count x (walk next j head)) noted in
       omega arith
 
-  chain-holds : Holds (desc_of p) next head bs
-  chain-holds =
+  chain_holds : Holds (desc_of p) next head bs
+  chain_holds =
       fill_at next q.n q.tables.shadow head bs g.held.shadow (λ j. sym (fill_links (next_of q) q.tables.shadow head bs (λ i. refl) j))
-      (walk_below next q.n well.nexts k head g.well.free) chain-once
+      (walk_below next q.n well.nexts k head g.well.free) chain_once
 
   apart : (i j : ℕ) → i < j → j < k → hop next i head ≡ hop next j head → ⊥
-  apart i j l u = hops_apart next k head i j l u (chain-once (hop next j head) (low j))
+  apart i j l u = hops_apart next k head i j l u (chain_once (hop next j head) (low j))
 
   -- where buffer j's descriptor is stored, and what is: its own, with NEXT
   abbrev at : ℕ → ℕ
@@ -89,8 +89,8 @@ module _ (q : Queue) (m : Memory) (bs : List Buffer) (g : Good q) (a : Addable q
   abbrev put : ℕ → Desc
   put j = with_next (desc_of p (hop next j head))
 
-  at-apart : (i j : ℕ) → i < j → j < k → (at i + 16 ≤ at j) ⊎ (at j + 16 ≤ at i)
-  at-apart i j l u =
+  at_apart : (i j : ℕ) → i < j → j < k → (at i + 16 ≤ at j) ⊎ (at j + 16 ≤ at i)
+  at_apart i j l u =
       let e : (hop next i head ≡ hop next j head → ⊥) = apart i j l u in
       by_test (ltb (hop next i head) (hop next j head))
       (λ t. inl (let b : hop next i head < hop next j head = ltb-true (hop next i head) (hop next j head) t in omega arith))
@@ -100,7 +100,7 @@ module _ (q : Queue) (m : Memory) (bs : List Buffer) (g : Good q) (a : Addable q
   plain : is_indirect p head ≡ false
   unfolding hop
   plain =
-      ap has_indirect (chain-holds 0 a.some) ∙ filled_direct (get_or bs 0 no_buffer) (more? (drop 1 bs)) (next head)
+      ap has_indirect (chain_holds 0 a.some) ∙ filled_direct (get_or bs 0 no_buffer) (more? (drop 1 bs)) (next head)
 
   stored_one : (i : ℕ) → stored p head i m ≡ record { one = puts at put i m.one; two = m.two; pool = m.pool }
   unfolding stored puts
@@ -125,66 +125,66 @@ module _ (q : Queue) (m : Memory) (bs : List Buffer) (g : Good q) (a : Addable q
       let n : q.n ≤ 64 = small in
       omega arith
 
-  desc-fit : (j : ℕ) → j < k → Fit (desc_of p (hop next j head))
-  desc-fit j l =
-      subst Fit (sym (chain-holds j l)) (filled_fit (get_or bs j no_buffer) (more? (drop (suc j) bs)) (next (hop next j head)) (f j l) (next_small j))
+  desc_fit : (j : ℕ) → j < k → Fit (desc_of p (hop next j head))
+  desc_fit j l =
+      subst Fit (sym (chain_holds j l)) (filled_fit (get_or bs j no_buffer) (more? (drop (suc j) bs)) (next (hop next j head)) (f j l) (next_small j))
 
   put_fit : (j : ℕ) → j < k → Fit (put j)
   put_fit j l =
-      subst (λ x. Fit (with_next x)) (sym (chain-holds j l)) (next_fit (get_or bs j no_buffer) (more? (drop (suc j) bs)) (next (hop next j head)) (f j l) (next_small j))
+      subst (λ x. Fit (with_next x)) (sym (chain_holds j l)) (next_fit (get_or bs j no_buffer) (more? (drop (suc j) bs)) (next (hop next j head)) (f j l) (next_small j))
 
   room : (j : ℕ) → at j + 16 ≤ length m.one
   room j = let b : hop next j head < q.n = low j in omega arith
 
-  length-stored : length s ≡ length m.one
-  length-stored = ap (λ (x : Memory). length x.one) (stored_one k) ∙ puts_length at put k m.one
+  length_stored : length s ≡ length m.one
+  length_stored = ap (λ (x : Memory). length x.one) (stored_one k) ∙ puts_length at put k m.one
 
   -- a descriptor that goes on is stored as it stands
   put_on : (j : ℕ) → j + 1 < k → put j ≡ desc_of p (hop next j head)
   put_on j l =
       let b : Buffer = get_or bs j no_buffer in
-      let e : desc_of p (hop next j head) ≡ filled b true (next (hop next j head)) = chain-holds j (omega arith) ∙ ap (λ t. filled b t (next (hop next j head))) (more_on (suc j) bs (omega arith)) in
+      let e : desc_of p (hop next j head) ≡ filled b true (next (hop next j head)) = chain_holds j (omega arith) ∙ ap (λ t. filled b t (next (hop next j head))) (more_on (suc j) bs (omega arith)) in
       ap with_next e ∙ filled_on b (next (hop next j head)) ∙ sym e
 
   -- and the last is stored again, without NEXT
-  last-hop : last_of p head ≡ hop next (k - 1) head
-  last-hop = ap (λ j. hop next (j - 1) head) noted
+  last_hop : last_of p head ≡ hop next (k - 1) head
+  last_hop = ap (λ j. hop next (j - 1) head) noted
 
   abbrev last : List ℕ
   last = put_desc s (16 * last_of p head) (desc_of p (last_of p head))
 
   -- so each is in the table as the record has it
-  desc-stored : (j : ℕ) → j < k → desc_at last (at j) ≡ desc_of p (hop next j head)
-  desc-stored j l =
+  desc_stored : (j : ℕ) → j < k → desc_at last (at j) ≡ desc_of p (hop next j head)
+  desc_stored j l =
       by_eq j (k - 1)
-      (λ e. let x : hop next j head ≡ last_of p head = ap (λ i. hop next i head) e ∙ sym last-hop in
-      let n : length s ≡ length m.one = length-stored in
+      (λ e. let x : hop next j head ≡ last_of p head = ap (λ i. hop next i head) e ∙ sym last_hop in
+      let n : length s ≡ length m.one = length_stored in
       let b : at j + 16 ≤ length m.one = room j in
       ap (λ i. desc_at last (16 * i)) x
-      ∙ desc_put_same s (16 * last_of p head) (desc_of p (last_of p head)) (omega arith) (subst (λ i. Fit (desc_of p i)) x (desc-fit j l))
+      ∙ desc_put_same s (16 * last_of p head) (desc_of p (last_of p head)) (omega arith) (subst (λ i. Fit (desc_of p i)) x (desc_fit j l))
       ∙ ap (desc_of p) (sym x))
       (λ e. desc_put_other s (at j) (16 * last_of p head) (desc_of p (last_of p head))
-      (subst (λ i. (at j + 16 ≤ 16 * i) ⊎ (16 * i + 16 ≤ at j)) (sym last-hop) (at-apart j (k - 1) (omega arith) (omega arith)))
+      (subst (λ i. (at j + 16 ≤ 16 * i) ⊎ (16 * i + 16 ≤ at j)) (sym last_hop) (at_apart j (k - 1) (omega arith) (omega arith)))
       ∙ ap (λ (x : Memory). desc_at x.one (at j)) (stored_one k)
-      ∙ puts_at at put k m.one at-apart (λ i u. room i) put_fit j l
+      ∙ puts_at at put k m.one at_apart (λ i u. room i) put_fit j l
       ∙ put_on j (omega arith))
 
-  table-holds : Holds (table_desc M) next head bs
-  table-holds j l =
+  table_holds : Holds (table_desc M) next head bs
+  table_holds j l =
       rings_desc q.n last (q.counts.avail % q.n) head (after q.counts.avail) (hop next j head) (low j)
-      ∙ desc-stored j l
-      ∙ chain-holds j l
+      ∙ desc_stored j l
+      ∙ chain_holds j l
 
   -- THE LAW: what the device reads after a direct add
-  pub direct-publishes : Reads q.modes.legacy q.n q.base (published (add_direct q bs) q.counts.free (length bs) m) q.counts.avail q.counts.free bs
-  direct-publishes =
-      let n : length s ≡ length m.one = length-stored in
+  pub direct_publishes : Reads q.modes.legacy q.n q.base (published (add_direct q bs) q.counts.free (length bs) m) q.counts.avail q.counts.free bs
+  direct_publishes =
+      let n : length s ≡ length m.one = length_stored in
       let o : length last ≡ length s = put_desc_length s (16 * last_of p head) (desc_of p (last_of p head)) in
       let b : head < q.n = g.well.free in
       let c : q.n ≤ 64 = small in
       ring_reads q.modes.legacy q.n q.base M last q.counts.avail head bs refl (omega arith) (omega arith) (omega arith)
-      (table_reads q.n q.base M head bs a.some a.most a.order next (λ j l. low j) table-holds)
+      (table_reads q.n q.base M head bs a.some a.most a.order next (λ j l. low j) table_holds)
 
   -- and its descriptors refer to no table
-  pub direct-stands : Plain q.n (published (add_direct q bs) q.counts.free (length bs) m) q.counts.free
-  direct-stands = table_plain q.n q.base M head bs a.some a.most a.order next (λ j l. low j) table-holds
+  pub direct_stands : Plain q.n (published (add_direct q bs) q.counts.free (length bs) m) q.counts.free
+  direct_stands = table_plain q.n q.base M head bs a.some a.most a.order next (λ j l. low j) table_holds

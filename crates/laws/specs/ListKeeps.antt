@@ -22,7 +22,7 @@ use Rattle.laws.specs.Held.{Held}
 use Rattle.laws.specs.WellFormedIs.{filled_means, order_means}
 use Rattle.laws.specs.FillLaws.{fill_links}
 use Rattle.laws.specs.FreeLaws.{hop_stands}
-use Rattle.laws.specs.AddKeeps.{Addable, ListedSame, direct-keeps}
+use Rattle.laws.specs.AddKeeps.{Addable, listed_same, direct_keeps}
 
 module _ (q : Queue) (bs : List Buffer) (s : Held q) (w : WellFormed q) (a : Addable q bs) (i : q.modes.indirect ≡ true) (t : 1 < length bs) where
   -- the record opened; how many buffers the list has; the descriptor taken; where links lead
@@ -60,7 +60,7 @@ module _ (q : Queue) (bs : List Buffer) (s : Held q) (w : WellFormed q) (a : Add
   direct = add_direct q (any ∷ [])
 
   like : WellFormed direct
-  like = direct-keeps q (any ∷ []) s w one (inr refl)
+  like = direct_keeps q (any ∷ []) s w one (inr refl)
 
   -- ---- links and noted lengths
 
@@ -224,7 +224,7 @@ module _ (q : Queue) (bs : List Buffer) (s : Held q) (w : WellFormed q) (a : Add
   listed_new h o f =
       by_eq h head
       (λ e. subst (Listed r) (sym e) listed_head)
-      (λ e. ListedSame q r h refl refl refl (desc_first h (out_old h o e)) (w.listed h (out_old h o e) (ap has_indirect (sym (desc_first h (out_old h o e))) ∙ f)))
+      (λ e. listed_same q r h refl refl refl (desc_first h (out_old h o e)) (w.listed h (out_old h o e) (ap has_indirect (sym (desc_first h (out_old h o e))) ∙ f)))
 
   -- 8: the list given is sound
   sound_new : (h : ℕ) → Out r h → Sound (buffers_of r h)

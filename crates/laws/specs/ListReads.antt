@@ -56,15 +56,15 @@ module _ (q : Queue) (m : Memory) (bs : List Buffer) (g : Good q) (a : Addable q
   small = power_most q.n g.well.size.0 g.well.size.1 g.well.size.2
 
   -- what the record holds: the head's descriptor, its chain of one, and the list
-  head-desc : desc_of p head ≡ head_desc q head k
-  head-desc =
+  head_desc : desc_of p head ≡ head_desc q head k
+  head_desc =
       get_or-set_same q.tables.shadow head (head_desc q head k) no_desc (let b : head < q.n = g.well.free in let f : q.n ≤ length q.tables.shadow = g.held.shadow in omega arith)
 
   listed : is_indirect p head ≡ true
-  listed = ap has_indirect head-desc
+  listed = ap has_indirect head_desc
 
   entries : entries_of p head ≡ k
-  entries = ap (λ d. d.len / 16) head-desc ∙ (omega arith)
+  entries = ap (λ d. d.len / 16) head_desc ∙ (omega arith)
 
   last_head : last_of p head ≡ head
   unfolding hop
@@ -100,34 +100,34 @@ module _ (q : Queue) (m : Memory) (bs : List Buffer) (g : Good q) (a : Addable q
       subst Fit (sym (put_is j l)) (filled_fit (get_or bs j no_buffer) (more? (drop (suc j) bs)) (j + 1) (f j l) (omega arith))
 
   -- so the buffers' stores leave these in the pool, and nothing else
-  stored-pool : (j : ℕ) → stored p head j m ≡ record { one = m.one; two = m.two; pool = puts at put j m.pool }
+  stored_pool : (j : ℕ) → stored p head j m ≡ record { one = m.one; two = m.two; pool = puts at put j m.pool }
   unfolding stored puts
-  stored-pool zero = refl
-  stored-pool (suc j) =
-      ap₂ (λ e x. accessed p (cond e (store_desc (entry (slot + j)) (put j)) (store_desc (desc (hop (next_of p) j head)) (with_next (desc_of p (hop (next_of p) j head))))) x) listed (stored-pool j)
+  stored_pool zero = refl
+  stored_pool (suc j) =
+      ap₂ (λ e x. accessed p (cond e (store_desc (entry (slot + j)) (put j)) (store_desc (desc (hop (next_of p) j head)) (with_next (desc_of p (hop (next_of p) j head))))) x) listed (stored_pool j)
 
   -- the memory after all stores
   abbrev M : Memory
   M = published p head k m
 
   pool_length : length M.pool ≡ length m.pool
-  pool_length = ap (λ (x : Memory). length x.pool) (stored-pool k) ∙ puts_length at put k m.pool
+  pool_length = ap (λ (x : Memory). length x.pool) (stored_pool k) ∙ puts_length at put k m.pool
 
   -- its slot holds the list
-  slot-holds : Holds (list_desc q.base M (slot_address q head)) (λ x. x + 1) 0 bs
-  slot-holds j l =
+  slot_holds : Holds (list_desc q.base M (slot_address q head)) (λ x. x + 1) 0 bs
+  slot_holds j l =
       let e : hop (λ x. x + 1) j 0 ≡ j = hop_up j 0 ∙ (omega arith) in
       let o : q.base + 16 * slot - q.base + 16 * j ≡ at j = omega arith in
       ap (list_desc q.base M (slot_address q head)) e
       ∙ ap (desc_at M.pool) o
-      ∙ ap (λ (x : Memory). desc_at x.pool (at j)) (stored-pool k)
+      ∙ ap (λ (x : Memory). desc_at x.pool (at j)) (stored_pool k)
       ∙ puts_at at put k m.pool (λ x y b c. inl (omega arith)) (λ x b. let c : slot + k ≤ q.n * q.n = slot_room in omega arith) put_fit j l
       ∙ put_is j l
       ∙ ap (λ x. filled (get_or bs j no_buffer) (more? (drop (suc j) bs)) (x + 1)) (sym e)
 
   -- and the head's descriptor, which is stored next, refers to the slot
-  head-fit : Fit (head_desc q head k)
-  head-fit =
+  head_fit : Fit (head_desc q head k)
+  head_fit =
       let n : q.n ≤ 64 = small in
       let c : k ≤ q.n = a.most in
       let b : slot + k ≤ q.n * q.n = slot_room in
@@ -142,20 +142,20 @@ module _ (q : Queue) (m : Memory) (bs : List Buffer) (g : Good q) (a : Addable q
   last = put_desc s (16 * last_of p head) (desc_of p (last_of p head))
 
   one_length : length s ≡ length m.one
-  one_length = ap (λ (x : Memory). length x.one) (stored-pool k)
+  one_length = ap (λ (x : Memory). length x.one) (stored_pool k)
 
-  head-stored : table_desc M head ≡ list_at q.base slot k (next_of q head)
-  head-stored =
+  head_stored : table_desc M head ≡ list_at q.base slot k (next_of q head)
+  head_stored =
       let n : length s ≡ length m.one = one_length in
       let b : head < q.n = g.well.free in
       rings_desc q.n last (q.counts.avail % q.n) head (after q.counts.avail) head b
       ∙ ap (λ x. desc_at (put_desc s (16 * x) (desc_of p x)) (16 * head)) last_head
-      ∙ desc_put_same s (16 * head) (desc_of p head) (omega arith) (subst Fit (sym head-desc) head-fit)
-      ∙ head-desc
+      ∙ desc_put_same s (16 * head) (desc_of p head) (omega arith) (subst Fit (sym head_desc) head_fit)
+      ∙ head_desc
 
   -- THE LAW: what the device reads after an indirect add
-  pub list-publishes : Reads q.modes.legacy q.n q.base (published (add_indirect q bs) q.counts.free (length bs) m) q.counts.avail q.counts.free bs
-  list-publishes =
+  pub list_publishes : Reads q.modes.legacy q.n q.base (published (add_indirect q bs) q.counts.free (length bs) m) q.counts.avail q.counts.free bs
+  list_publishes =
       let n : length s ≡ length m.one = one_length in
       let o : length last ≡ length s = put_desc_length s (16 * last_of p head) (desc_of p (last_of p head)) in
       let e : length M.pool ≡ length m.pool = pool_length in
@@ -163,8 +163,8 @@ module _ (q : Queue) (m : Memory) (bs : List Buffer) (g : Good q) (a : Addable q
       let c : q.n ≤ 64 = small in
       let x : slot + k ≤ q.n * q.n = slot_room in
       ring_reads q.modes.legacy q.n q.base M last q.counts.avail head bs refl (omega arith) (omega arith) (omega arith)
-      (list_reads_lem q.n q.base M head bs a.some a.most a.order slot (next_of q head) b head-stored (omega arith) slot-holds)
+      (list_reads_lem q.n q.base M head bs a.some a.most a.order slot (next_of q head) b head_stored (omega arith) slot_holds)
 
   -- and its head's descriptor stands alone
-  pub list-stands : Listed q.n q.base (published (add_indirect q bs) q.counts.free (length bs) m) q.counts.free
-  list-stands = list_listed q.n q.base M head bs a.some a.most a.order slot (next_of q head) g.well.free head-stored
+  pub list_stands : Listed q.n q.base (published (add_indirect q bs) q.counts.free (length bs) m) q.counts.free
+  list_stands = list_listed q.n q.base M head bs a.some a.most a.order slot (next_of q head) g.well.free head_stored

@@ -13,7 +13,7 @@ use Rattle.rules.specs.Meaning.{WellFormed}
 use Rattle.rules.specs.Answer.{refused}
 use Rattle.rules.specs.Calls.{fits, add_tests, add_refusal, add_direct, add_indirect, add_opened, opened, open_add, add}
 use Rattle.laws.specs.HeldKeeps.{held_add}
-use Rattle.laws.specs.AddKeeps.{Addable, direct-keeps}
+use Rattle.laws.specs.AddKeeps.{Addable, direct_keeps}
 use Rattle.laws.specs.ListKeeps.{list_keeps}
 use Rattle.laws.specs.CallKeeps.{Good, none_open, whole_keeps}
 
@@ -63,7 +63,7 @@ module _ (q : Queue) (bs : List Buffer) (a : Addable q bs) where
 
 opened_keeps : (q : Queue) (bs : List Buffer) → Good q → Addable q bs → WellFormed (add_opened q bs)
 opened_keeps q bs g a =
-    by_opening q bs a WellFormed (list_keeps q bs g.held g.well a) (direct-keeps q bs g.held g.well a)
+    by_opening q bs a WellFormed (list_keeps q bs g.held g.well a) (direct_keeps q bs g.held g.well a)
 
 -- THE LAW of add: opened, and whole
 pub open_add_keeps : (q : Queue) (m : Memory) (bs : List Buffer) → Good q → Good (open_add q m bs).queue

@@ -29,13 +29,13 @@ module _ (o : Owning) (t : ℕ) (m : Memory) (s : List ℕ) where
   q = o.queue
 
   -- a pop that is refused is answered as it is
-  by-pop
+  by_pop
       : (a k : ℕ)
       → t < o.queue.n
       → pop_used o.queue m t (own_list o t) ≡ record { answer = a; value = 0; steps = k; queue = o.queue; memory = m }
       → (a ≡ 0 → ⊥)
       → Declined o m s (poll_token o t m s)
-  by-pop a k l e d = record {
+  by_pop a k l e d = record {
     number = a;
     some = d;
     is =
@@ -58,11 +58,11 @@ module _ (o : Owning) (t : ℕ) (m : Memory) (s : List ℕ) where
         (λ l. let b : t < q.n = ltb-true t q.n l in
         by_eq (call_refusal q m) 0
         (λ e. by_eq (used_idx_of q m) q.counts.last
-        (λ i. inr (by-pop NotReady 1 b (pop_not_ready q m t (own_list o t) e i) (omega arith)))
+        (λ i. inr (by_pop NotReady 1 b (pop_not_ready q m t (own_list o t) e i) (omega arith)))
         (λ d. by_eq (pop_verdict q m t (own_list o t)) 0
         (λ f. inl (as_poll e d f))
-        (λ f. inr (by-pop (pop_verdict q m t (own_list o t)) 3 b (pop_fails q m t (own_list o t) e d f) f))))
-        (λ e. inr (by-pop (call_refusal q m) 0 b (pop_refused q m t (own_list o t) e) e)))
+        (λ f. inr (by_pop (pop_verdict q m t (own_list o t)) 3 b (pop_fails q m t (own_list o t) e d f) f))))
+        (λ e. inr (by_pop (call_refusal q m) 0 b (pop_refused q m t (own_list o t) e) e)))
         (λ l. inr (record {
           number = WrongToken;
           some = omega arith;

@@ -94,13 +94,13 @@ module _ (P : Memory → Type 0) where
     pop t = pop_used q m t (own_list o t)
 
     -- what it was, what a pop of the named token leaves, or what that and an add of the same buffer leave
-    poll-leaves
+    poll_leaves
         : P m
         → (poll_refusal o m s ≡ 0 → (used_idx_of o.queue m ≡ o.queue.counts.last → ⊥) → poll_named o m < o.queue.n → P (pop (poll_named o m)).memory)
         → (poll_refusal o m s ≡ 0 → (used_idx_of o.queue m ≡ o.queue.counts.last → ⊥) → poll_named o m < o.queue.n → P (add (pop (poll_named o m)).queue (pop (poll_named o m)).memory (own_list o (poll_named o m))).memory)
         → P (poll o m s).memory
     unfolding poll
-    poll-leaves here pops adds =
+    poll_leaves here pops adds =
         let t : ℕ = poll_named o m in
         either_holds (eqb (poll_refusal o m s) 0) _ _
         (λ e. let z : poll_refusal o m s ≡ 0 = eqb-true (poll_refusal o m s) 0 e in
@@ -132,7 +132,7 @@ module _ (o : Owning) (m : Memory) (s : List ℕ) (g : OwnGood o) where
       let t : ℕ = poll_named o m in
       let r : Outcome = pop_used k m t (own_list o t) in
       let u : UsedSame k r.memory m = record { ring = (used_ring_stays k m g.good).after_pop t (own_list o t); two = (two_stays k m).after_pop t (own_list o t) } in
-      poll-leaves (λ x. UsedSame k x m) o m s (used_here k m) (λ z d b. u)
+      poll_leaves (λ x. UsedSame k x m) o m s (used_here k m) (λ z d b. u)
       (λ z d b. used_then k _ r.memory m
       (used_add r.queue k r.memory (own_list o t) (pop_keeps k m t (own_list o t) g.good) (pop_shaped k m t (own_list o t) g.good))
       u)
@@ -208,7 +208,7 @@ module _ (o : Owning) (m : Memory) (s : List ℕ) (g : OwnGood o) (r : Region) (
   -- THE LAW of poll
   pub poll_changes : Clear o.queue (own_places o.queue (poll_named o m)) r i → SameByte r i (poll o m s).memory m
   poll_changes c =
-      poll-leaves (λ x. SameByte r i x m) o m s refl pops
+      poll_leaves (λ x. SameByte r i x m) o m s refl pops
       (λ z d b. let e : pop_used k m t (own_list o t) ≡ taken o m s z d g b = popped o m s z d g b in
       subst (λ (x : Outcome). SameByte r i (add x.queue x.memory (own_list o t)).memory m) (sym e)
       (add_changes (taken_out o m) (taken_memory o m) (own_list o t) (subst (λ (x : Outcome). Good x.queue) e (pop_keeps k m t (own_list o t) g.good)) r i

@@ -87,16 +87,16 @@ module _ (base size : ℕ) (d : size ≡ 0 → ⊥) where
     kept_n = (one_added_lem q m b l.good allowed).n
 
   -- all of them
-  lined-all
+  lined_all
       : (k i j : ℕ) (q : Queue) (m : Memory)
       → Lined base size q m k i
       → i + k ≡ j
       → (Lined base size (add_own base size k i q m).queue (add_own base size k i q m).memory 0 j) × ((add_own base size k i q m).queue.n ≡ q.n)
   unfolding add_own
-  lined-all zero i j q m l e = (subst (λ x. Lined base size q m 0 x) (omega arith) l, refl)
-  lined-all (suc k) i j q m l e =
+  lined_all zero i j q m l e = (subst (λ x. Lined base size q m 0 x) (omega arith) l, refl)
+  lined_all (suc k) i j q m l e =
       let r : Outcome = add q m (own_buffer base size i ∷ []) in
-      let a = lined-all k (suc i) j r.queue r.memory (lined_on q m k i l) (omega arith) in
+      let a = lined_all k (suc i) j r.queue r.memory (lined_on q m k i l) (omega arith) in
       (a.0, a.1 ∙ kept_n q m k i l)
 
 -- ---- the call
@@ -180,10 +180,10 @@ module _ (q : Queue) (base size : ℕ) (m : Memory) (s : List ℕ) where
     o = (own_made q base size m s).owning
 
     lined : Lined base size o.queue (own_made q base size m s).memory 0 q.n
-    lined = (lined-all base size (let l = some in omega arith) q.n 0 q.n q m start (omega arith)).0
+    lined = (lined_all base size (let l = some in omega arith) q.n 0 q.n q m start (omega arith)).0
 
     same_n : o.queue.n ≡ q.n
-    same_n = (lined-all base size (let l = some in omega arith) q.n 0 q.n q m start (omega arith)).1
+    same_n = (lined_all base size (let l = some in omega arith) q.n 0 q.n q m start (omega arith)).1
 
     all_out : (h : ℕ) → h < q.n → Away o h
     all_out h l = record { out = lined.out h l; list = lined.list h l }

@@ -314,10 +314,10 @@ module _ (o : Owning) (m : Memory) (s : List ℕ) (e : poll_refusal o m s ≡ 0)
       none : 0 ≤ o.size
       none = omega arith
 
-      again-done
+      again_done
           : add (taken_out o m) (taken_memory o m) (own_list o t)
           ≡ one_outcome (taken_out o m) (own_buffer o.base o.size t) (taken_memory o m) t
-      again-done = back_done (p 0 none) (held_good 0 none) (taken_memory o m) t (in_hand 0 none t 0 b refl) taken_fit
+      again_done = back_done (p 0 none) (held_good 0 none) (taken_memory o m) t (in_hand 0 none t 0 b refl) taken_fit
 
       -- THE LAWS: a length above the size is 10 with no view, and the buffer is popped and added again under the same token
       pub poll_over : o.size < poll_len o m → poll o m s ≡ poll_again o m s
@@ -325,12 +325,12 @@ module _ (o : Owning) (m : Memory) (s : List ℕ) (e : poll_refusal o m s ≡ 0)
           poll_pops
           ∙ ap (λ c. cond c (poll_shown o m s) over)
           (lt-leb (poll_len o m) o.size l)
-          ∙ ap (λ (r : Outcome). plainly o OverLength 0 r.queue Nothing r.memory s) again-done
+          ∙ ap (λ (r : Outcome). plainly o OverLength 0 r.queue Nothing r.memory s) again_done
 
       pub poll_over_good : o.size < poll_len o m → OwnGood (poll o m s).owning
       poll_over_good l =
           subst OwnGood
-          (ap (λ (r : Outcome). record { queue = r.queue; base = o.base; size = o.size; held = Nothing }) again-done
+          (ap (λ (r : Outcome). record { queue = r.queue; base = o.base; size = o.size; held = Nothing }) again_done
           ∙ ap (λ (r : Owned). r.owning) (sym (poll_over l)))
           (back_good (p 0 none) (held_good 0 none) (taken_memory o m) t (in_hand 0 none t 0 b refl) taken_fit)
 

@@ -16,8 +16,8 @@ use Rattle.laws.specs.Opening.{by_opening, addable}
 use Rattle.laws.specs.Added.{published, add_done}
 use Rattle.laws.specs.Reads.{AllNarrow, Reads}
 use Rattle.laws.specs.Followed.{Plain, Listed}
-use Rattle.laws.specs.DirectReads.{direct-publishes, direct-stands}
-use Rattle.laws.specs.ListReads.{list-publishes, list-stands}
+use Rattle.laws.specs.DirectReads.{direct_publishes, direct_stands}
+use Rattle.laws.specs.ListReads.{list_publishes, list_stands}
 
 module _ (q : Queue) (m : Memory) (bs : List Buffer) (g : Good q) (e : add_refusal q m bs ≡ 0) where
   -- where nothing refuses the add, each region holds what it needs
@@ -54,8 +54,8 @@ module _ (q : Queue) (m : Memory) (bs : List Buffer) (g : Good q) (e : add_refus
   add_publishes f =
       subst (λ (o : Outcome). Reads q.modes.legacy q.n q.base o.memory q.counts.avail q.counts.free bs) (sym (add_done q m bs g e))
       (by_opening q bs able (λ r. Reads q.modes.legacy q.n q.base (published r q.counts.free (length bs) m) q.counts.avail q.counts.free bs)
-      (λ i l. list-publishes q m bs g able i one_room (pool_room i) f)
-      (λ d. direct-publishes q m bs g able d one_room f))
+      (λ i l. list_publishes q m bs g able i one_room (pool_room i) f)
+      (λ d. direct_publishes q m bs g able d one_room f))
 
   -- THE LAW: how its descriptors stand in the table
   abbrev pub Stands : Memory → Type 0
@@ -65,5 +65,5 @@ module _ (q : Queue) (m : Memory) (bs : List Buffer) (g : Good q) (e : add_refus
   add_stands f =
       subst (λ (o : Outcome). Stands o.memory) (sym (add_done q m bs g e))
       (by_opening q bs able (λ r. Stands (published r q.counts.free (length bs) m))
-      (λ i l. inr (i, list-stands q m bs g able i one_room (pool_room i) f))
-      (λ d. inl (direct-stands q m bs g able d one_room f)))
+      (λ i l. inr (i, list_stands q m bs g able i one_room (pool_room i) f))
+      (λ d. inl (direct_stands q m bs g able d one_room f)))

@@ -138,11 +138,11 @@ module _ (q : Queue) where
       let s : noted_of q h ≡ suc (noted_of q h - 1) = omega arith in
       ending_stops (λ j. has_next (desc_of q j)) (next_of q) (noted_of q h - 1) h (ap (λ k. ends_at k h) (sym s) ∙ t)
 
-  means-end
+  means_end
       : ((h i : ℕ) → Out q h → i + 1 < noted_of q h → has_next (desc_of q (hop (next_of q) i h)) ≡ true)
       → ((h : ℕ) → Out q h → has_next (desc_of q (last_of q h)) ≡ false)
       → end_clause q ≡ true
-  means-end f g = means_head (λ j. ends_at (noted_of q j) j) each
+  means_end f g = means_head (λ j. ends_at (noted_of q j) j) each
     where
       each : (h : ℕ) → Out q h → ends_at (noted_of q h) h ≡ true
       each h o =
@@ -358,7 +358,7 @@ means_well_formed q w =
       used = le-leb q.counts.used q.n w.used;
       next = means_next q w.free w.nexts;
       once = true_once q.n (named q) w.once;
-      ends = means-end q w.goes_on w.stops;
+      ends = means_end q w.goes_on w.stops;
       indirect = means_indirect q w.listed;
       buffer = means_buffer q w.buffers;
       count = eq-eqb (ahead q.counts.avail q.counts.last + one_if (is_add q.call)) (out_count q) w.count;

@@ -26,7 +26,7 @@ use Rattle.mixing.specs.Device.{Wiring, Act, take_next, complete, set_used_flags
 use Rattle.mixing.specs.Fields.{num, dsc, put, Changed, put_changed, num_kept, put_num, unlike}
 use Rattle.mixing.specs.Facts.{Stage, adding, taken, offered, returned, is_out, Notes, TableOk, ListOk, Led, Shown, Blank, DriverAt, DeviceAt, Facts}
 use Rattle.mixing.specs.Stages.{kind, number_of, turned, turned_here, turned_there, turned_keeps, turned_back, turned_out, mem_some, mem_more, once_more, mem_less, gone, once_less, length_less}
-use Rattle.mixing.specs.Shows.{slot_low, small, hop_in, staged_out, shown-kept, led-kept, driver-kept, filled, slots_differ, used_not_pool, last_slot, taken_slot, used_slot, driver_notes}
+use Rattle.mixing.specs.Shows.{slot_low, small, hop_in, staged_out, shown_kept, led_kept, driver_kept, filled, slots_differ, used_not_pool, last_slot, taken_slot, used_slot, driver_notes}
 
 -- the queue's wiring
 abbrev pub wire : ℕ → Queue → Wiring
@@ -101,8 +101,8 @@ module _ (base : ℕ) (q : Queue) (m : Memory) (d : Device) (g : Notes) (f : Fac
     held = f.held;
     once = f.once;
     many = f.many;
-    shown = shown-kept base q m (put q p v m) g well f.outs p h (put_changed q p v m) b f.shown;
-    at_driver = driver-kept base q m (put q p v m) g well f.outs p h (put_changed q p v m) o (popped_same p v h b) q.call f.at_driver;
+    shown = shown_kept base q m (put q p v m) g well f.outs p h (put_changed q p v m) b f.shown;
+    at_driver = driver_kept base q m (put q p v m) g well f.outs p h (put_changed q p v m) o (popped_same p v h b) q.call f.at_driver;
     at_device = x;
   }
 
@@ -296,7 +296,7 @@ module _ (base : ℕ) (q : Queue) (m : Memory) (d : Device) (g : Notes) (f : Fac
     gave_led y k z =
         let r : g.stage y ≡ offered k =
         (turned_back g.stage h (returned g.uses) y (offered k) z (λ v. let c : ◌≡◌ {A = ℕ} 4 3 = ap kind v in omega arith)).0 in
-        led-kept base q m m' g well f.outs used_idx tt changed refl y (staged_out q m d g f y (ap is_out r)) (f.shown.led y k r)
+        led_kept base q m m' g well f.outs used_idx tt changed refl y (staged_out q m d g f y (ap is_out r)) (f.shown.led y k r)
 
     gave_shown : Shown base q m' (gave_notes h)
     unfolding gave_notes Has
@@ -320,7 +320,7 @@ module _ (base : ℕ) (q : Queue) (m : Memory) (d : Device) (g : Notes) (f : Fac
         (λ y z. turned_keeps g.stage h (returned g.uses) y adding z
         (not_taken adding (λ v. let c : ◌≡◌ {A = ℕ} 2 1 = ap kind v in omega arith)))
         (λ z. omega arith) q.call
-        (driver-kept base q m m' g well f.outs used_idx tt changed refl (λ z. id_same (q.counts.last % q.n) (slot_low q well q.counts.last))
+        (driver_kept base q m m' g well f.outs used_idx tt changed refl (λ z. id_same (q.counts.last % q.n) (slot_low q well q.counts.last))
         q.call f.at_driver)
 
     gave_held : (y : ℕ) → mem y (without h d.holds) ≡ true → turned g.stage h (returned g.uses) y ≡ taken

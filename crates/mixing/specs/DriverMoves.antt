@@ -13,7 +13,7 @@ use Rattle.laws.specs.CallKeeps.{Good}
 use Rattle.mixing.specs.Device.{Table, in_table, in_list, Doing, resting, take_idx, take_head, take_chain, complete_id, complete_len, complete_idx, Device}
 use Rattle.mixing.specs.Fields.{dsc, Changed}
 use Rattle.mixing.specs.Facts.{Stage, taken, offered, returned, is_out, Notes, InChain, TableOk, Led, Blank, DriverAt, Reading, DeviceAt, Facts}
-use Rattle.mixing.specs.Shows.{shown-kept, device-kept}
+use Rattle.mixing.specs.Shows.{shown_kept, device_kept}
 
 -- the record with other counts, tables and open call
 abbrev pub remade : Queue → Counts → Tables → Open → Queue
@@ -25,32 +25,32 @@ module _ (base : ℕ) (q : Queue) (m : Memory) (c : Counts) (t : Tables) (o : Op
   abbrev r : Queue
   r = remade q c t o
 
-  in-moves : (i : ℕ) → InChain q h i → InChain r h i
-  in-moves i x = subst (λ z. 0 < count i z) (sym chain) x
+  in_moves : (i : ℕ) → InChain q h i → InChain r h i
+  in_moves i x = subst (λ z. 0 < count i z) (sym chain) x
 
   in_back : (i : ℕ) → InChain r h i → InChain q h i
   in_back i x = subst (λ z. 0 < count i z) chain x
 
-  indirect-moves : is_indirect q h ≡ true → is_indirect r h ≡ true
-  indirect-moves e = ap has_indirect head ∙ e
+  indirect_moves : is_indirect q h ≡ true → is_indirect r h ≡ true
+  indirect_moves e = ap has_indirect head ∙ e
 
-  indirect-back : is_indirect r h ≡ true → is_indirect q h ≡ true
-  indirect-back e = ap has_indirect (sym head) ∙ e
+  indirect_back : is_indirect r h ≡ true → is_indirect q h ≡ true
+  indirect_back e = ap has_indirect (sym head) ∙ e
 
   entries : entries_of r h ≡ entries_of q h
   entries = ap (λ x. x.len / 16) head
 
-  led-moves : Led base q m h → Led base r m h
-  led-moves l = (
+  led_moves : Led base q m h → Led base r m h
+  led_moves l = (
     (λ i x. let y : TableOk base q h (dsc q (desc i) m) = l.0 i (in_back i x) in
-        ((λ e. let z = y.0 e in (indirect-moves z.0, z.1)), (λ e n. in-moves _ (y.1 e n)))),
+        ((λ e. let z = y.0 e in (indirect_moves z.0, z.1)), (λ e n. in_moves _ (y.1 e n)))),
     (λ e j u n. let b : j < entries_of q h = subst (λ z. j < z) entries u in
-        subst (λ z. (dsc q (entry (q.n * h + j)) m).next < z) (sym entries) (l.1 (indirect-back e) j b n)),
+        subst (λ z. (dsc q (entry (q.n * h + j)) m).next < z) (sym entries) (l.1 (indirect_back e) j b n)),
   )
 
-  reading-moves : (g g' : Notes) (s : Table) (i : ℕ) → Reading q g h s i → Reading r g' h s i
-  reading-moves g g' in_table i x = in-moves i x
-  reading-moves g g' (in_list s) i x = (indirect-moves x.0, x.1, subst (λ z. i < z) (sym entries) x.2)
+  reading_moves : (g g' : Notes) (s : Table) (i : ℕ) → Reading q g h s i → Reading r g' h s i
+  reading_moves g g' in_table i x = in_moves i x
+  reading_moves g g' (in_list s) i x = (indirect_moves x.0, x.1, subst (λ z. i < z) (sym entries) x.2)
 
 module _ (base : ℕ) (q : Queue) (m : Memory) (d : Device) (g : Notes) (f : Facts base q m d g) where
   -- ---- the record changes, and the memory does not
@@ -82,7 +82,7 @@ module _ (base : ℕ) (q : Queue) (m : Memory) (d : Device) (g : Notes) (f : Fac
     device_moves take_head x = x
     device_moves (take_chain h k s i bs) x =
         let z = v.chain h g.takes x.1 in
-        (x.0, v.offers h g.takes x.1, reading-moves base q m c t o h z.0 z.1 g moved_notes s i x.2, x.3)
+        (x.0, v.offers h g.takes x.1, reading_moves base q m c t o h z.0 z.1 g moved_notes s i x.2, x.3)
     device_moves (complete_id h l) x = x
     device_moves (complete_len h l) x = x
     device_moves (complete_idx h l) x = x
@@ -114,7 +114,7 @@ module _ (base : ℕ) (q : Queue) (m : Memory) (d : Device) (g : Notes) (f : Fac
             slots = λ k l u. v.offers _ k (f.shown.slots k l u);
             elements = λ k l u. v.returns _ k l (f.shown.elements k (omega arith) u);
             led = λ h k e. let b : g.stage h ≡ offered k = v.back h k e in
-                led-moves base q m c t o h (v.chain h k b).0 (v.chain h k b).1 (f.shown.led h k b);
+                led_moves base q m c t o h (v.chain h k b).0 (v.chain h k b).1 (f.shown.led h k b);
           };
           at_driver = a;
           at_device = device_moves d.doing f.at_device;
@@ -160,9 +160,9 @@ module _ (base : ℕ) (q : Queue) (m : Memory) (d : Device) (g : Notes) (f : Fac
       held = f.held;
       once = f.once;
       many = f.many;
-      shown = shown-kept base q m m' g f.good.well f.outs p has changed blank f.shown;
+      shown = shown_kept base q m m' g f.good.well f.outs p has changed blank f.shown;
       at_driver = a;
-      at_device = device-kept base q m m' g f.good.well f.outs p has changed own d d.doing f.at_device;
+      at_device = device_kept base q m m' g f.good.well f.outs p has changed own d d.doing f.at_device;
     }
 
 -- ---- and the open call changes then

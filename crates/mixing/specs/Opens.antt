@@ -25,7 +25,7 @@ use Rattle.rules.specs.Calls.{fits, add_refusal, call_refusal, count_refusal, mo
 use Rattle.laws.specs.WellFormedIs.{out_means, means_out}
 use Rattle.laws.specs.FillLaws.{fill_other}
 use Rattle.laws.specs.FreeLaws.{hop_stands}
-use Rattle.laws.specs.AddKeeps.{Addable, nexts, noted_new, taken_free, desc_new, direct-others}
+use Rattle.laws.specs.AddKeeps.{Addable, nexts, noted_new, taken_free, desc_new, direct_others}
 use Rattle.laws.specs.ListKeeps.{list_others}
 use Rattle.laws.specs.CallKeeps.{Good, none_open, open_pop_keeps, open_peek_keeps}
 use Rattle.laws.specs.Opening.{by_opening, addable, open_add_keeps}
@@ -161,7 +161,7 @@ module _ (base : ℕ) (q : Queue) (m : Memory) (d : Device) (g : Notes) (f : Fac
         last = refl;
         noted = λ h z. get_or-set_other q.tables.noted head h (length bs) 0 z;
         chain = λ h o. (
-          (direct-others q bs f.good.held well a x h o).0,
+          (direct_others q bs f.good.held well a x h o).0,
           fill_other (next_of q) q.tables.shadow head bs (λ j. refl) h (let z = taken_free q bs f.good.held well a x h in let y = out_used h o in omega arith),
         );
         flags = λ i j l.

@@ -97,45 +97,45 @@ module _ (base : ℕ) (q : Queue) (m m' : Memory) (g : Notes) (w : WellFormed q)
   offered_out h k e = out_means q h (outs h ∙ ap is_out e)
 
   module _ (b : Blank q g p) where
-    blank-not : (x : Place) → (Blank q g x → ⊥) → x ≡ p → ⊥
-    blank-not x f e = f (subst (Blank q g) (sym e) b)
+    blank_not : (x : Place) → (Blank q g x → ⊥) → x ≡ p → ⊥
+    blank_not x f e = f (subst (Blank q g) (sym e) b)
 
     pub table_same : (h k i : ℕ) → g.stage h ≡ offered k → InChain q h i → dsc q (desc i) m' ≡ dsc q (desc i) m
     unfolding Has
     table_same h k i e c =
         dsc_kept q (desc i) p m m' refl (chain_low q w h i (offered_out h k e) c) has
-        (blank-not (desc i) (λ f. let z : count i (chain_of q h) ≡ 0 = f h k e in omega arith)) changed
+        (blank_not (desc i) (λ f. let z : count i (chain_of q h) ≡ 0 = f h k e in omega arith)) changed
 
     pub list_same : (h k j : ℕ) → g.stage h ≡ offered k → is_indirect q h ≡ true → j < entries_of q h
         → dsc q (entry (q.n * h + j)) m' ≡ dsc q (entry (q.n * h + j)) m
     unfolding Has
     list_same h k j e i l =
         dsc_kept q (entry (q.n * h + j)) p m m' refl (entry_low q w h j (offered_out h k e) i l) has
-        (blank-not (entry (q.n * h + j)) (λ f. f h k e i j l refl)) changed
+        (blank_not (entry (q.n * h + j)) (λ f. f h k e i j l refl)) changed
 
     pub slot_same : (k : ℕ) → g.takes ≤ k → k < g.adds → num q (avail_ring (k % q.n)) m' ≡ num q (avail_ring (k % q.n)) m
     unfolding Has
-    slot_same k l u = num_kept q (avail_ring (k % q.n)) p m m' (slot_low q w k) has (blank-not (avail_ring (k % q.n)) (λ f. f k l u refl)) changed
+    slot_same k l u = num_kept q (avail_ring (k % q.n)) p m m' (slot_low q w k) has (blank_not (avail_ring (k % q.n)) (λ f. f k l u refl)) changed
 
-    pub element-same : (k : ℕ) → g.pops ≤ k → k < g.uses → num q (used_id (k % q.n)) m' ≡ num q (used_id (k % q.n)) m
+    pub element_same : (k : ℕ) → g.pops ≤ k → k < g.uses → num q (used_id (k % q.n)) m' ≡ num q (used_id (k % q.n)) m
     unfolding Has
-    element-same k l u = num_kept q (used_id (k % q.n)) p m m' (slot_low q w k) has (blank-not (used_id (k % q.n)) (λ f. f k l u refl)) changed
+    element_same k l u = num_kept q (used_id (k % q.n)) p m m' (slot_low q w k) has (blank_not (used_id (k % q.n)) (λ f. f k l u refl)) changed
 
     pub idx_same : num q avail_idx m' ≡ num q avail_idx m
     unfolding Has
-    idx_same = num_kept q avail_idx p m m' tt has (blank-not avail_idx (λ f. f)) changed
+    idx_same = num_kept q avail_idx p m m' tt has (blank_not avail_idx (λ f. f)) changed
 
-    pub used-same : num q used_idx m' ≡ num q used_idx m
+    pub used_same : num q used_idx m' ≡ num q used_idx m
     unfolding Has
-    used-same = num_kept q used_idx p m m' tt has (blank-not used_idx (λ f. f)) changed
+    used_same = num_kept q used_idx p m m' tt has (blank_not used_idx (λ f. f)) changed
 
     -- THE LAW
-    pub shown-kept : Shown base q m g → Shown base q m' g
-    shown-kept s = record {
+    pub shown_kept : Shown base q m g → Shown base q m' g
+    shown_kept s = record {
       idx = idx_same ∙ s.idx;
-      used = used-same ∙ s.used;
+      used = used_same ∙ s.used;
       slots = λ k l u. ap g.stage (slot_same k l u) ∙ s.slots k l u;
-      elements = λ k l u. ap g.stage (element-same k l u) ∙ s.elements k l u;
+      elements = λ k l u. ap g.stage (element_same k l u) ∙ s.elements k l u;
       led = λ h k e. (
         (λ i c. subst (TableOk base q h) (sym (table_same h k i e c)) ((s.led h k e).0 i c)),
         (λ i j l. subst (ListOk q h) (sym (list_same h k j e i l)) ((s.led h k e).1 i j l)),
@@ -152,9 +152,9 @@ module _ (base : ℕ) (q : Queue) (m m' : Memory) (g : Notes) (w : WellFormed q)
     unfolding Has
     desc_same i l = dsc_kept q (desc i) p m m' refl l has (not_front (desc i) refl) changed
 
-    progress-kept : (h s : ℕ) → Out q h → Progress base q m h s → Progress base q m' h s
+    progress_kept : (h s : ℕ) → Out q h → Progress base q m h s → Progress base q m' h s
     unfolding Has
-    progress-kept h s o r = record {
+    progress_kept h s o r = record {
       flags = r.flags;
       table = λ j l u. subst (TableOk base q h) (sym (desc_same (hop (next_of q) j h) (hop_low q w h j o.below))) (r.table j l u);
       last = λ l. subst (TableOk base q h) (sym (desc_same (last_of q h) (hop_low q w h (noted_of q h - 1) o.below))) (r.last l);
@@ -165,9 +165,9 @@ module _ (base : ℕ) (q : Queue) (m m' : Memory) (g : Notes) (w : WellFormed q)
           (not_front (avail_ring (q.counts.avail % q.n)) refl) changed ∙ r.slot l;
     }
 
-    pub led-kept : (h : ℕ) → Out q h → Led base q m h → Led base q m' h
+    pub led_kept : (h : ℕ) → Out q h → Led base q m h → Led base q m' h
     unfolding Has
-    led-kept h o l = (
+    led_kept h o l = (
       (λ i c. subst (TableOk base q h) (sym (desc_same i (chain_low q w h i o c))) (l.0 i c)),
       (λ i j u. subst (ListOk q h) (sym
           (dsc_kept q (entry (q.n * h + j)) p m m' refl (entry_low q w h j o i u) has (not_front (entry (q.n * h + j)) refl) changed)) (l.1 i j u)),
@@ -176,35 +176,35 @@ module _ (base : ℕ) (q : Queue) (m m' : Memory) (g : Notes) (w : WellFormed q)
     -- the element that a pop reads, where one was returned
     module _ (same : g.pops < g.uses → num q (used_id (q.counts.last % q.n)) m' ≡ num q (used_id (q.counts.last % q.n)) m) where
       -- THE LAW
-      pub driver-kept : (c : Open) → DriverAt base q m g c → DriverAt base q m' g c
-      driver-kept Idle a = tt
-      driver-kept (Add h s) a = (a.0, progress-kept h s (out_means q h (outs h ∙ ap is_out a.0)) a.1)
-      driver-kept (PopIdx t b) a = tt
-      driver-kept (PopId t b) a = a
-      driver-kept (PopLen t b x) a = (a.0, a.1 ∙ sym (same a.0))
-      driver-kept (PopStore k i l) a = tt
-      driver-kept PeekIdx a = tt
-      driver-kept PeekId a = a
+      pub driver_kept : (c : Open) → DriverAt base q m g c → DriverAt base q m' g c
+      driver_kept Idle a = tt
+      driver_kept (Add h s) a = (a.0, progress_kept h s (out_means q h (outs h ∙ ap is_out a.0)) a.1)
+      driver_kept (PopIdx t b) a = tt
+      driver_kept (PopId t b) a = a
+      driver_kept (PopLen t b x) a = (a.0, a.1 ∙ sym (same a.0))
+      driver_kept (PopStore k i l) a = tt
+      driver_kept PeekIdx a = tt
+      driver_kept PeekId a = a
 
   -- ---- the open act, where the driver stores
 
   module _ (own : device_writes p ≡ false) (d : Device) where
-    not-used : (x : Place) → device_writes x ≡ true → x ≡ p → ⊥
-    not-used x e f = true≢false (sym e ∙ ap device_writes f ∙ own)
+    not_used : (x : Place) → device_writes x ≡ true → x ≡ p → ⊥
+    not_used x e f = true≢false (sym e ∙ ap device_writes f ∙ own)
 
     id_same : num q (used_id (d.used % q.n)) m' ≡ num q (used_id (d.used % q.n)) m
     unfolding Has
-    id_same = num_kept q (used_id (d.used % q.n)) p m m' (slot_low q w d.used) has (not-used (used_id (d.used % q.n)) refl) changed
+    id_same = num_kept q (used_id (d.used % q.n)) p m m' (slot_low q w d.used) has (not_used (used_id (d.used % q.n)) refl) changed
 
     -- THE LAW
-    pub device-kept : (a : Doing) → DeviceAt q m d g a → DeviceAt q m' d g a
-    device-kept resting x = tt
-    device-kept take_idx x = tt
-    device-kept take_head x = x
-    device-kept (take_chain h k t i bs) x = x
-    device-kept (complete_id h l) x = x
-    device-kept (complete_len h l) x = (x.0, id_same ∙ x.1)
-    device-kept (complete_idx h l) x = (x.0, id_same ∙ x.1)
+    pub device_kept : (a : Doing) → DeviceAt q m d g a → DeviceAt q m' d g a
+    device_kept resting x = tt
+    device_kept take_idx x = tt
+    device_kept take_head x = x
+    device_kept (take_chain h k t i bs) x = x
+    device_kept (complete_id h l) x = x
+    device_kept (complete_len h l) x = (x.0, id_same ∙ x.1)
+    device_kept (complete_idx h l) x = (x.0, id_same ∙ x.1)
 
 -- ---- how many chains are out
 

@@ -19,7 +19,7 @@ use Rattle.mixing.specs.Facts.{Notes, Facts, Inv}
 use Rattle.mixing.specs.Kept.{sane, wired, keeps}
 use Rattle.mixing.specs.Seen.{Filled, step_filled, opening_filled}
 use Rattle.mixing.specs.SwapLoads.{over}
-use Rattle.mixing.specs.SwapStores.{onto, Given, move-onto, opening-onto}
+use Rattle.mixing.specs.SwapStores.{onto, Given, move_onto, opening_onto}
 use Rattle.mixing.specs.DeviceDoes.{Does, sees, puts, work_does, begin_does}
 
 -- ---- what a call does over the device's memory, and the device over the call's
@@ -146,13 +146,13 @@ module _ (w : Wiring) where
     step_drives : Drives q g m (stepping t.made q)
     step_drives = record {
       filled = step_filled w.base q m d g f;
-      beside = λ o p z c i. ap (further t.made) (move-onto w.base q m d g f o p z c i);
+      beside = λ o p z c i. ap (further t.made) (move_onto w.base q m d g f o p z c i);
     }
 
     call_drives : (c : Call) → busy driver t ≡ false → Drives q g m (opening c q)
     call_drives c r = record {
       filled = opening_filled w.base q m d g f c r;
-      beside = λ o p z k i. opening-onto w.base q m d g f o p z k r c i;
+      beside = λ o p z k i. opening_onto w.base q m d g f o p z k r c i;
     }
 
     tick_does : Does q g m (work w d.doing d)

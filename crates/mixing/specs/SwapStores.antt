@@ -51,22 +51,22 @@ module _ (base : ℕ) (q : Queue) (m : Memory) (d : Device) (g : Notes) (f : Fac
   abbrev m' : Memory
   m' = put q p v m
 
-  given-has : Given q g open? p v → Has q.n p
+  given_has : Given q g open? p v → Has q.n p
   unfolding Has
-  given-has (element h o a b e i l) = h
-  given-has (tells n h o a i l) = h
-  given-has (gives n r x) = subst (Has q.n) (sym r) tt
+  given_has (element h o a b e i l) = h
+  given_has (tells n h o a i l) = h
+  given_has (gives n r x) = subst (Has q.n) (sym r) tt
 
-  given-own : Given q g open? p v → device_writes p ≡ true
-  given-own (element h o a b e i l) = o
-  given-own (tells n h o a i l) = o
-  given-own (gives n r x) = ap device_writes r
+  given_own : Given q g open? p v → device_writes p ≡ true
+  given_own (element h o a b e i l) = o
+  given_own (tells n h o a i l) = o
+  given_own (gives n r x) = ap device_writes r
 
   fit_same : fits q m' ≡ fits q m
   fit_same = still_fits q q m' m (record { n = refl; modes = refl }) (access_lengths q m (store p v))
 
   kept : (x : Place) → Has q.n x → (x ≡ p → ⊥) → num q x m' ≡ num q x m
-  kept x h n = num_kept q x p m m' h (given-has c) n (put_changed q p v m)
+  kept x h n = num_kept q x p m m' h (given_has c) n (put_changed q p v m)
 
   -- ---- what the driver loads
 
@@ -91,19 +91,19 @@ module _ (base : ℕ) (q : Queue) (m : Memory) (d : Device) (g : Notes) (f : Fac
   idx_kept (gives n r y) (inl x) = absurd (true≢false (sym x ∙ n))
   idx_kept (gives n r y) (inr x) = some_still (y m f.fit) ∙ sym x
 
-  id-kept : (Given q g open? p v) → g.pops < g.uses → num q (used_id (q.counts.last % q.n)) m' ≡ num q (used_id (q.counts.last % q.n)) m
+  id_kept : (Given q g open? p v) → g.pops < g.uses → num q (used_id (q.counts.last % q.n)) m' ≡ num q (used_id (q.counts.last % q.n)) m
   unfolding Has
-  id-kept (element h o a b e i l) x = kept (used_id (q.counts.last % q.n)) (slot_low q well q.counts.last) (i x)
-  id-kept (tells n h o a i l) x = kept (used_id (q.counts.last % q.n)) (slot_low q well q.counts.last) (i (q.counts.last % q.n))
-  id-kept (gives n r y) x =
+  id_kept (element h o a b e i l) x = kept (used_id (q.counts.last % q.n)) (slot_low q well q.counts.last) (i x)
+  id_kept (tells n h o a i l) x = kept (used_id (q.counts.last % q.n)) (slot_low q well q.counts.last) (i (q.counts.last % q.n))
+  id_kept (gives n r y) x =
       kept (used_id (q.counts.last % q.n)) (slot_low q well q.counts.last)
       (λ z. unlike (omega arith) (z ∙ r))
 
-  len-kept : (Given q g open? p v) → g.pops < g.uses → num q (used_len (q.counts.last % q.n)) m' ≡ num q (used_len (q.counts.last % q.n)) m
+  len_kept : (Given q g open? p v) → g.pops < g.uses → num q (used_len (q.counts.last % q.n)) m' ≡ num q (used_len (q.counts.last % q.n)) m
   unfolding Has
-  len-kept (element h o a b e i l) x = kept (used_len (q.counts.last % q.n)) (slot_low q well q.counts.last) (l x)
-  len-kept (tells n h o a i l) x = kept (used_len (q.counts.last % q.n)) (slot_low q well q.counts.last) (l (q.counts.last % q.n))
-  len-kept (gives n r y) x =
+  len_kept (element h o a b e i l) x = kept (used_len (q.counts.last % q.n)) (slot_low q well q.counts.last) (l x)
+  len_kept (tells n h o a i l) x = kept (used_len (q.counts.last % q.n)) (slot_low q well q.counts.last) (l (q.counts.last % q.n))
+  len_kept (gives n r y) x =
       kept (used_len (q.counts.last % q.n)) (slot_low q well q.counts.last)
       (λ z. unlike (omega arith) (z ∙ r))
 
@@ -122,19 +122,19 @@ module _ (base : ℕ) (q : Queue) (m : Memory) (d : Device) (g : Notes) (f : Fac
   reacts Idle e x = refl
   reacts (Add h i) e x = refl
   reacts (PopIdx t b) e x = ap (λ z. cond z (ends q 3 0) (will_go_on q (PopId t b))) (idx_kept c (side x (λ y. goes_on (none? m) 3 (PopId t b) y)))
-  reacts (PopId t b) e x = ap (λ z. will_go_on q (PopLen t b z)) (id-kept c (subst (λ o. DriverAt base q m g o) e f.at_driver))
-  reacts (PopLen t b y) e x = ap (λ z. react q (PopLen t b y) z) (len-kept c (subst (λ o. DriverAt base q m g o) e f.at_driver).0)
+  reacts (PopId t b) e x = ap (λ z. will_go_on q (PopLen t b z)) (id_kept c (subst (λ o. DriverAt base q m g o) e f.at_driver))
+  reacts (PopLen t b y) e x = ap (λ z. react q (PopLen t b y) z) (len_kept c (subst (λ o. DriverAt base q m g o) e f.at_driver).0)
   reacts (PopStore k i l) e x = refl
   reacts PeekIdx e x = ap (λ z. cond z (ends q 3 0) (will_go_on q PeekId)) (idx_kept c (side x (λ y. goes_on (none? m) 3 PeekId y)))
-  reacts PeekId e x = ap (λ z. react q PeekId z) (id-kept c (subst (λ o. DriverAt base q m g o) e f.at_driver))
+  reacts PeekId e x = ap (λ z. react q PeekId z) (id_kept c (subst (λ o. DriverAt base q m g o) e f.at_driver))
 
   -- THE LAW of a step
-  pub move-onto : (open? ≡ true) ⊎ (is_open (move q m).queue.call ≡ true) → move q m' ≡ onto (move q m) (put q p v (move q m).memory)
+  pub move_onto : (open? ≡ true) ⊎ (is_open (move q m).queue.call ≡ true) → move q m' ≡ onto (move q m) (put q p v (move q m).memory)
   unfolding move
-  move-onto x =
+  move_onto x =
       ap₂ (λ r y. record { answer = r.answer; value = r.value; steps = 1; queue = r.queue; memory = y })
       (reacts q.call refl x)
-      (stores_swap q (access q q.call) p v m (access_stored base q m d g f q.call refl) (access_wide q q.call) (given-has c) (given-own c))
+      (stores_swap q (access q q.call) p v m (access_stored base q m d g f q.call refl) (access_wide q q.call) (given_has c) (given_own c))
 
   -- ---- an opening
 
@@ -153,9 +153,9 @@ module _ (base : ℕ) (q : Queue) (m : Memory) (d : Device) (g : Notes) (f : Fac
   call_same : call_refusal q m' ≡ call_refusal q m
   call_same = ap (λ z. first ((BadRecord when not (well_formed q)) ∷ (BadRegion when not z) ∷ (Busy when is_open q.call) ∷ [])) fit_same
 
-  unless-onto : (a b : ℕ) (o r : Outcome) → a ≡ b → o ≡ onto r (put q p v r.memory)
+  unless_onto : (a b : ℕ) (o r : Outcome) → a ≡ b → o ≡ onto r (put q p v r.memory)
       → unless a q m' o ≡ onto (unless b q m r) (put q p v (unless b q m r).memory)
-  unless-onto a b o r e s = ap (λ z. unless z q m' o) e ∙ go (eqb b 0)
+  unless_onto a b o r e s = ap (λ z. unless z q m' o) e ∙ go (eqb b 0)
     where
       go : (z : Bool) → cond z o (refused b q m') ≡ onto (cond z r (refused b q m)) (put q p v (cond z r (refused b q m)).memory)
       go true = s
@@ -167,39 +167,39 @@ module _ (base : ℕ) (q : Queue) (m : Memory) (d : Device) (g : Notes) (f : Fac
     ended o e (inl x) = x
     ended o e (inr x) = absurd (true≢false (sym x ∙ ap (λ r. is_open r.call) e ∙ rests))
 
-    event-kept : Given q g open? p v → open? ≡ true → num q avail_event m' ≡ num q avail_event m
+    event_kept : Given q g open? p v → open? ≡ true → num q avail_event m' ≡ num q avail_event m
     unfolding Has
-    event-kept (element h o a b e i l) x = kept avail_event tt e
-    event-kept (tells n h o a i l) x = absurd (true≢false (sym x ∙ n))
-    event-kept (gives n r y) x = absurd (true≢false (sym x ∙ n))
+    event_kept (element h o a b e i l) x = kept avail_event tt e
+    event_kept (tells n h o a i l) x = absurd (true≢false (sym x ∙ n))
+    event_kept (gives n r y) x = absurd (true≢false (sym x ∙ n))
 
-    flags-kept : Given q g open? p v → open? ≡ true → num q used_flags m' ≡ num q used_flags m
+    flags_kept : Given q g open? p v → open? ≡ true → num q used_flags m' ≡ num q used_flags m
     unfolding Has
-    flags-kept (element h o a b e i l) x = kept used_flags tt b
-    flags-kept (tells n h o a i l) x = absurd (true≢false (sym x ∙ n))
-    flags-kept (gives n r y) x = absurd (true≢false (sym x ∙ n))
+    flags_kept (element h o a b e i l) x = kept used_flags tt b
+    flags_kept (tells n h o a i l) x = absurd (true≢false (sym x ∙ n))
+    flags_kept (gives n r y) x = absurd (true≢false (sym x ∙ n))
 
     notified : (b e : Bool) → cond e (answered 0 0 q m') (answered 1 0 q (put q avail_flags (cond b 0 1) m'))
         ≡ onto (cond e (answered 0 0 q m) (answered 1 0 q (put q avail_flags (cond b 0 1) m)))
         (put q p v (cond e (answered 0 0 q m) (answered 1 0 q (put q avail_flags (cond b 0 1) m))).memory)
     unfolding Has
     notified b true = refl
-    notified b false = ap (λ z. answered 1 0 q z) (stores_swap q (store avail_flags (cond b 0 1)) p v m (tt, refl) tt (given-has c) (given-own c))
+    notified b false = ap (λ z. answered 1 0 q z) (stores_swap q (store avail_flags (cond b 0 1)) p v m (tt, refl) tt (given_has c) (given_own c))
 
     -- THE LAW of an opening
-    pub opening-onto : (x : Call) → (open? ≡ true) ⊎ (is_open (opening x q m).queue.call ≡ true)
+    pub opening_onto : (x : Call) → (open? ≡ true) ⊎ (is_open (opening x q m).queue.call ≡ true)
         → opening x q m' ≡ onto (opening x q m) (put q p v (opening x q m).memory)
     unfolding open_add open_pop open_peek can_pop should_notify set_dev_notify available_desc
-    opening-onto (add bs) i = unless-onto (add_refusal q m' bs) (add_refusal q m bs) _ _ (add_same bs) refl
-    opening-onto (pop_used_call t bs) i = unless-onto (call_refusal q m') (call_refusal q m) _ _ call_same refl
-    opening-onto peek_used_call i = unless-onto (call_refusal q m') (call_refusal q m) _ _ call_same refl
-    opening-onto can_pop_call i =
-        unless-onto (call_refusal q m') (call_refusal q m) _ _ call_same
+    opening_onto (add bs) i = unless_onto (add_refusal q m' bs) (add_refusal q m bs) _ _ (add_same bs) refl
+    opening_onto (pop_used_call t bs) i = unless_onto (call_refusal q m') (call_refusal q m) _ _ call_same refl
+    opening_onto peek_used_call i = unless_onto (call_refusal q m') (call_refusal q m) _ _ call_same refl
+    opening_onto can_pop_call i =
+        unless_onto (call_refusal q m') (call_refusal q m) _ _ call_same
         (ap (λ z. answered 1 (one_if (not z)) q m') (idx_kept c (inl (ended (can_pop q m) (can_pop_record q m) i))))
-    opening-onto should_notify_call i =
+    opening_onto should_notify_call i =
         let x : open? ≡ true = ended (should_notify q m) (should_notify_record q m) i in
-        unless-onto (call_refusal q m') (call_refusal q m) _ _ call_same
-        (ap₂ (λ y z. answered 1 (one_if (cond q.modes.event_idx (notify_by_event q.counts.avail y) (by_flags z))) q m') (event-kept c x)
-        (flags-kept c x))
-    opening-onto available_desc_call i = unless-onto (count_refusal q) (count_refusal q) _ _ refl refl
-    opening-onto (set_dev_notify_call b) i = unless-onto (call_refusal q m') (call_refusal q m) _ _ call_same (notified b q.modes.event_idx)
+        unless_onto (call_refusal q m') (call_refusal q m) _ _ call_same
+        (ap₂ (λ y z. answered 1 (one_if (cond q.modes.event_idx (notify_by_event q.counts.avail y) (by_flags z))) q m') (event_kept c x)
+        (flags_kept c x))
+    opening_onto available_desc_call i = unless_onto (count_refusal q) (count_refusal q) _ _ refl refl
+    opening_onto (set_dev_notify_call b) i = unless_onto (call_refusal q m') (call_refusal q m) _ _ call_same (notified b q.modes.event_idx)

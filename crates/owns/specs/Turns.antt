@@ -39,8 +39,8 @@ own_given addr size = refl
 
 -- ---- what is tested at a head
 
-abbrev pub field_own : Queue → ℕ → ℕ → ℕ → Bool
-field_own q base size h = not (outstanding q h) || same_list (buffers_of q h) (own_buffer base size h ∷ [])
+abbrev pub own_at : Queue → ℕ → ℕ → ℕ → Bool
+own_at q base size h = not (outstanding q h) || same_list (buffers_of q h) (own_buffer base size h ∷ [])
 
 abbrev pub out_but : Queue → ℕ → ℕ → Bool
 out_but q t h = eqb h t || outstanding q h
@@ -52,10 +52,10 @@ module _ (q : Queue) (h x : ℕ) (l : h < q.n) (e : x ≡ noted_of q h) where
   pub out_some : (x ≡ 0 → ⊥) → outstanding q h ≡ true
   out_some z = rw (lt-ltb h q.n l, ne_eqb (noted_of q h) 0 (λ n. z (e ∙ n)))
 
-  pub own_none : (base size : ℕ) → x ≡ 0 → true ≡ field_own q base size h
+  pub own_none : (base size : ℕ) → x ≡ 0 → true ≡ own_at q base size h
   own_none base size z = rw (out_none z)
 
-  pub own_some : (base size : ℕ) (bs : List Buffer) → (x ≡ 0 → ⊥) → bs ≡ own_buffer base size h ∷ [] → matches q h bs ≡ field_own q base size h
+  pub own_some : (base size : ℕ) (bs : List Buffer) → (x ≡ 0 → ⊥) → bs ≡ own_buffer base size h ∷ [] → matches q h bs ≡ own_at q base size h
   own_some base size bs z f = rw (out_some z, f)
 
   -- not the one left aside: its noted length tells

@@ -78,8 +78,8 @@ module _ (c : Core) (r : ℕ) (words lens halves : List ℕ) (sides : List Bool)
         modes z = ap (λ (x : Outcome). x.queue.modes) (is z) ∙ s.modes
 
     -- THE LAW of an add that was opened
-    pub add-going : (bs : List Buffer) → done_of o t' m ≡ open_add q m bs → Going o r words' lens' halves' sides' one two pool
-    add-going bs e =
+    pub add_going : (bs : List Buffer) → done_of o t' m ≡ open_add q m bs → Going o r words' lens' halves' sides' one two pool
+    add_going bs e =
         going (add_refusal q m bs) (add_opened q bs) (e ∙ add_opening q m bs)
         (λ z. (add_allowed q (fits q m) bs z).well)
         (λ z. (add_allowed q (fits q m) bs z).fits)
@@ -87,16 +87,16 @@ module _ (c : Core) (r : ℕ) (words lens halves : List ℕ) (sides : List Bool)
         (λ g. subst (λ (x : Outcome). Good x.queue) (add_opening q m bs) (open_add_keeps q m bs g))
 
   -- and of a pop and a peek, which alter no list
-  pub pop-going : (t : ℕ) (bs : List Buffer) → done_of o q.tables m ≡ open_pop q m t bs → Going o r words lens halves sides one two pool
-  pop-going t bs e =
+  pub pop_going : (t : ℕ) (bs : List Buffer) → done_of o q.tables m ≡ open_pop q m t bs → Going o r words lens halves sides one two pool
+  pop_going t bs e =
       going words lens halves sides refl refl refl refl (call_refusal q m) (with_call q (PopIdx t (matches q t bs))) (e ∙ pop_opening q m t bs)
       (λ z. (call_allowed q (fits q m) z).well)
       (λ z. (call_allowed q (fits q m) z).fits)
       (record { n = refl; modes = refl })
       (λ g. subst (λ (x : Outcome). Good x.queue) (pop_opening q m t bs) (open_pop_keeps q m t bs g))
 
-  pub peek-going : done_of o q.tables m ≡ open_peek q m → Going o r words lens halves sides one two pool
-  peek-going e =
+  pub peek_going : done_of o q.tables m ≡ open_peek q m → Going o r words lens halves sides one two pool
+  peek_going e =
       going words lens halves sides refl refl refl refl (call_refusal q m) (with_call q PeekIdx) (e ∙ peek_opening q m)
       (λ z. (call_allowed q (fits q m) z).well)
       (λ z. (call_allowed q (fits q m) z).fits)

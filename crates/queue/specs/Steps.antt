@@ -74,17 +74,17 @@ module _
   same_size : s.core.n ≡ c.n
   same_size = ap (λ (o : Outcome). o.queue.n) e ∙ (moved_shape q m).n
 
-  same-modes : s.core.modes ≡ c.modes
-  same-modes = ap (λ (o : Outcome). o.queue.modes) e ∙ (moved_shape q m).modes
+  same_modes : s.core.modes ≡ c.modes
+  same_modes = ap (λ (o : Outcome). o.queue.modes) e ∙ (moved_shape q m).modes
 
-  pub Ready-on
+  pub ready_on
       : length words' ≡ length words
       → length lens' ≡ length lens
       → length halves' ≡ length halves
       → length sides' ≡ length sides
       → Ready c r words lens halves sides
       → Ready s.core r words' lens' halves' sides'
-  Ready-on w l h b d = record {
+  ready_on w l h b d = record {
     within = subst (λ n. n ≤ r) (sym same_size) d.within;
     words_of = (let x = d.words_of in omega arith);
     lens_of = (let x = d.lens_of in omega arith);
@@ -93,18 +93,18 @@ module _
     good = subst Good (sym (ap (λ (o : Outcome). o.queue) e)) (move_keeps q m d.good);
   }
 
-  pub fitting-on : length one' ≡ length one → length pool' ≡ length pool → Fitting c one two pool → Fitting s.core one' two pool'
-  fitting-on l k f = fitting_like c s.core one two pool one' pool' same_size same-modes l k f
+  pub fitting_on : length one' ≡ length one → length pool' ≡ length pool → Fitting c one two pool → Fitting s.core one' two pool'
+  fitting_on l k f = fitting_like c s.core one two pool one' pool' same_size same_modes l k f
 
   -- a run's turn, where a call is open and steps are left
-  pub run-turn
+  pub run_turn
       : (answer value steps k : ℕ) (x : Done)
       → is_open c.call ≡ true
       → 0 < k
       → x ≡ record { core = s.core; answer = s.answer; value = s.value; steps = steps + 1 }
       → moves k (record { answer = answer; value = value; steps = steps; queue = q; memory = m })
       ≡ moves (k - 1) (done_of x (tables_of r words' lens' halves' sides') (record { one = one'; two = two; pool = pool' }))
-  run-turn answer value steps k x i l g =
+  run_turn answer value steps k x i l g =
       let o : Outcome = record { answer = answer; value = value; steps = steps; queue = q; memory = m } in
       let k-is : k ≡ suc (k - 1) = omega arith in
       ap (λ b. moves b o) k-is

@@ -113,7 +113,7 @@ module _ (c : Core) (t : Tables) (h : ℕ) where
       })
       (sets_if (is_indirect (queue_of c t) h) t.kept (c.n * h) (entries_of (queue_of c t) h))
 
-  pub freed-is
+  pub freed_is
       : (d : Desc) (k x : ℕ) (t₁ t₂ t₃ : Tables) (b : Core)
       → d ≡ desc_of (queue_of c t) h
       → k ≡ noted_of (queue_of c t) h
@@ -123,7 +123,7 @@ module _ (c : Core) (t : Tables) (h : ℕ) where
       → t₃ ≡ cleared t₂ (c.n * h) x
       → b ≡ freed_core c k h
       → queue_of b t₃ ≡ freed (queue_of c t) h
-  freed-is d k x t₁ t₂ t₃ b e f g e₁ e₂ e₃ m =
+  freed_is d k x t₁ t₂ t₃ b e f g e₁ e₂ e₃ m =
       ap₂ queue_of m (e₃ ∙ ap (λ y. cleared y (c.n * h) x) (e₂ ∙ ap (λ y. with_noted y h 0) e₁))
       ∙ ap₂ (λ i j. queue_of (freed_core c i h) (parts i j)) f (g ∙ ap (λ (w : Desc). cond (has_indirect w) (w.len / 16) 0) e)
       ∙ whole

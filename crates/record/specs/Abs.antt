@@ -6,7 +6,7 @@ use Rattle.rules.specs.Record as model
 use Rattle.rules.specs.New.{limit}
 use Rattle.views.specs.declared.Core.{Core}
 use Rattle.views.specs.Tables.{tables_of, queue_of}
-use Rattle.views.specs.Fixed.{Stored, words-fixed, lens-fixed, halves-fixed, sides-fixed}
+use Rattle.views.specs.Fixed.{Stored, words_fixed, lens_fixed, halves_fixed, sides_fixed}
 use Rattle.record.specs.declared.Queue.{Queue}
 
 abbrev pub room : ℕ
@@ -36,10 +36,10 @@ pub abs_fixes : (p q : Queue) → Arrays p → Arrays q → abs p ≡ abs q → 
 abs_fixes p q a b e =
     let c : p.core ≡ q.core = core_fixed p.core q.core _ _ e in
     let t : tables_of room p.words p.lens p.halves p.sides ≡ tables_of room q.words q.lens q.halves q.sides = ap (λ (m : model.Queue). m.tables) e in
-    let w : p.words ≡ q.words = words-fixed room p.words p.lens p.halves q.words q.lens q.halves p.sides q.sides a b t in
-    let l : p.lens ≡ q.lens = lens-fixed room p.words p.lens p.halves q.words q.lens q.halves p.sides q.sides a b t in
-    let h : p.halves ≡ q.halves = halves-fixed room p.words p.lens p.halves q.words q.lens q.halves p.sides q.sides a b t in
-    let s : p.sides ≡ q.sides = sides-fixed room p.words p.lens p.halves q.words q.lens q.halves p.sides q.sides a b t in
+    let w : p.words ≡ q.words = words_fixed room p.words p.lens p.halves q.words q.lens q.halves p.sides q.sides a b t in
+    let l : p.lens ≡ q.lens = lens_fixed room p.words p.lens p.halves q.words q.lens q.halves p.sides q.sides a b t in
+    let h : p.halves ≡ q.halves = halves_fixed room p.words p.lens p.halves q.words q.lens q.halves p.sides q.sides a b t in
+    let s : p.sides ≡ q.sides = sides_fixed room p.words p.lens p.halves q.words q.lens q.halves p.sides q.sides a b t in
     λ i. record { core = c i; words = w i; lens = l i; halves = h i; sides = s i }
 
 -- the plain fields of the all-zero record

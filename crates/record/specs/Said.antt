@@ -35,13 +35,13 @@ given_narrow addrs sizes outs f i b =
 
 module _ (q : Queue) (a : Arrays q) (i : Indices q.core) (w : well_formed (abs q) ≡ true) (r : Answer) (m m' : Memory) where
   -- THE LAW of an add that is answered 0: the memory that it leaves is read, by VIRTIO's rules, as the list given, whose buffers fit their fields
-  pub add-published
+  pub add_published
       : (bs : List Buffer)
       → AllNarrow bs
       → answer_of r m' ≡ add (abs q) m bs
       → r.answer ≡ 0
       → Reads q.core.modes.legacy q.core.n q.core.base m' q.core.avail_idx q.core.free_head bs
-  add-published bs f e z =
+  add_published bs f e z =
       let n : add_refusal (abs q) m bs ≡ 0 = by_eq (add_refusal (abs q) m bs) 0 (λ y. y) (λ y. absurd (y (sym (ap (λ (o : Outcome). o.answer) (add_refused (abs q) m bs y)) ∙ sym (ap (λ (o : Outcome). o.answer) e) ∙ z))) in
       subst (λ x. Reads q.core.modes.legacy q.core.n q.core.base x q.core.avail_idx q.core.free_head bs) (sym (ap (λ (o : Outcome). o.memory) e)) (add_publishes (abs q) m bs (good_of q a i w) n f)
 

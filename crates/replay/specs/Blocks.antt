@@ -227,14 +227,14 @@ module _ {before out : List ℕ} {p : Played} {m : Memory} where
   same_at h = ap (λ (x : Play). x.at) h.same
 
 module _ {before out : List ℕ} {p : Played} {m : Memory} {s : List ℕ} {end : Play} (left : ℕ) (h : Rest before out p m left s end) where
-  pub rest-turn
+  pub rest_turn
       : {after : List ℕ} {r : Played} {n : Memory}
       → 0 < left
       → p.going ≡ true
       → p.at < length s
       → ((q : Play) → Plays before out p m q → Plays before after r n (block s q))
       → Rest before after r n (left - 1) s end
-  rest-turn some e f turn =
+  rest_turn some e f turn =
       let q : Play = h.here in
       let g : q.going ≡ true = sym (same_going h.plays) ∙ e in
       let l : ltb q.at (length s) ≡ true = lt-ltb q.at (length s) (omega (arith, same_at h.plays)) in

@@ -199,7 +199,7 @@ Onward s p q = q.going ≡ true → Inside s (p.at + 16) q.at
 
 module _ (s : List ℕ) (p : Play) where
   -- a block ends at a wrong line, or goes on where its second list ends
-  lists-onward
+  lists_onward
       : (at : ℕ) (x y : Play) (f : List Buffer → ℕ → Play)
       → p.at + 7 ≤ at
       → x.going ≡ false
@@ -208,7 +208,7 @@ module _ (s : List ℕ) (p : Play) where
       → (let i : Listed = side word_in false s at [] in
       let o : Listed = side word_out true s i.at i.buffers in
       Onward s p (cond i.good (cond o.good (f o.buffers o.at) y) x))
-  lists-onward at x y f h ex ey place =
+  lists_onward at x y f h ex ey place =
       let i : Listed = side word_in false s at [] in
       let o : Listed = side word_out true s i.at i.buffers in
       either
@@ -233,7 +233,7 @@ module _ (s : List ℕ) (p : Play) where
   add_onward : Onward s p (add_block s p (p.at + 7))
   unfolding add_block
   add_onward =
-      lists-onward
+      lists_onward
       (p.at + 7)
       (wrong p 1)
       (wrong p 2)
@@ -280,7 +280,7 @@ module _ (s : List ℕ) (p : Play) where
       (wrong p 1)
       (λ a.
       let read : Inside s (p.at + 7 + 6 + 1) t.at = field_read word_token (2 ^ 32 - 1) s (p.at + 7) a in
-      lists-onward t.at (wrong p 2) (wrong p 3) f (omega arith) refl refl (λ bs next. refl))
+      lists_onward t.at (wrong p 2) (wrong p 3) f (omega arith) refl refl (λ bs next. refl))
       (λ a g. absurd (false≢true g))
 
   -- THE LAW of a block

@@ -162,7 +162,7 @@ module _
         })
         (cleared i)
 
-    pub opened-plays
+    pub opened_plays
         : {before out : List ℕ}
         → Written before out said text
         → Plays
@@ -171,7 +171,7 @@ module _
         (record { queue = made.queue; size = n; at = at; line = 4; said = said; going = true })
         m
         (opened n modes.indirect modes.event_idx at text)
-    opened-plays w = record {
+    opened_plays w = record {
       same = λ i. record { queue = (new_is i).queue; memory = (new_is i).memory; size = n; at = at; line = 4; said = text; going = true };
       wrote = w;
     }

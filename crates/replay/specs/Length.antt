@@ -120,7 +120,7 @@ module _ (s : List ℕ) (p : Play) (n : p.queue.n ≤ 64) where
     size = h.small.size;
   }
 
-  lists-say
+  lists_say
       : (at : ℕ) (x y : Play) (f : List Buffer → ℕ → Play)
       → Says p x
       → Says p y
@@ -128,7 +128,7 @@ module _ (s : List ℕ) (p : Play) (n : p.queue.n ≤ 64) where
       → (let i : Listed = side word_in false s at [] in
       let o : Listed = side word_out true s i.at i.buffers in
       Says p (cond i.good (cond o.good (f o.buffers o.at) y) x))
-  lists-say at x y f hx hy hf =
+  lists_say at x y f hx hy hf =
       let i : Listed = side word_in false s at [] in
       let o : Listed = side word_out true s i.at i.buffers in
       either
@@ -142,7 +142,7 @@ module _ (s : List ℕ) (p : Play) (n : p.queue.n ≤ 64) where
   add_says : (at : ℕ) → Says p (add_block s p at)
   unfolding add_block
   add_says at =
-      lists-say
+      lists_say
       at
       (wrong p 1)
       (wrong p 2)
@@ -179,7 +179,7 @@ module _ (s : List ℕ) (p : Play) (n : p.queue.n ≤ 64) where
       (cond i.good (cond o.good (f o.buffers o.at) (wrong p 3)) (wrong p 2))
       (wrong p 1)
       (λ a.
-      lists-say
+      lists_say
       t.at
       (wrong p 2)
       (wrong p 3)

@@ -70,13 +70,13 @@ module _ (most : ℕ) (s : List ℕ) (i v : ℕ) where
     unfolding digits_in
     digits_wide l e f = rw (from_here s i l, e, ← is, f)
 
-    pub digits-next
+    pub digits_next
         : i < length s
         → digit (get_or s i 0) ≡ true
         → leb (v * 10 + (c - 48)) most ≡ true
         → digits_in most (drop i s) i v ≡ digits_in most (drop (i + 1) s) (i + 1) (v * 10 + (c - 48))
     unfolding digits_in
-    digits-next l e f =
+    digits_next l e f =
         let k : suc i ≡ i + 1 = omega arith in
         rw (from_here s i l, e, ← is, f) (ap (λ j. digits_in most (drop (i + 1) s) j (v * 10 + (c - 48))) k)
 

@@ -91,16 +91,16 @@ module _ (key : List ℕ) (output : Bool) (s : List ℕ) (at : ℕ) (bs : List B
     pub side_word : stands line_none s (at + length key) ≡ true → side key output s at bs ≡ listed bs (at + length key + 5)
     side_word w = side_from_lem ∙ rw w
 
-    pub side-nothing
+    pub side_nothing
         : stands line_none s (at + length key) ≡ false
         → stands newline s (at + length key) ≡ true
         → side key output s at bs ≡ listed bs (at + length key + 1)
-    side-nothing w n =
+    side_nothing w n =
         let m : suc (at + length key) ≡ at + length key + 1 = omega arith in
         side_from_lem ∙ rw (w, n) (ap (listed bs) m)
 
-    pub side-entries
+    pub side_entries
         : stands line_none s (at + length key) ≡ false
         → stands newline s (at + length key) ≡ false
         → side key output s at bs ≡ entries 65 output s (at + length key) bs
-    side-entries w n = side_from_lem ∙ rw (w, n)
+    side_entries w n = side_from_lem ∙ rw (w, n)

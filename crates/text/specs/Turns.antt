@@ -50,13 +50,13 @@ module _ (output : Bool) (s : List ℕ) (at : ℕ) (bs : List Buffer) where
     pub entries_bad : (left : ℕ) → 0 < left → e.ok ≡ false → entries left output s at bs ≡ unlisted
     entries_bad left l o = entries_turn left l ∙ rw o
 
-    pub entries-last
+    pub entries_last
         : (left : ℕ)
         → 0 < left
         → e.ok ≡ true
         → stands comma s e.at ≡ false
         → entries left output s at bs ≡ list_end s e.at (bs ++ (buffer_of output e ∷ []))
-    entries-last left l o c = entries_turn left l ∙ rw (o, c)
+    entries_last left l o c = entries_turn left l ∙ rw (o, c)
 
     pub entries_next
         : (left : ℕ)
@@ -174,13 +174,13 @@ module _ (r : Side) (addrs sizes outs : List ℕ) where
         holds = λ t. absurd (true≢false (sym t ∙ wrong));
       }
 
-  pub lists-good
+  pub lists_good
       : (bs : List Buffer) (k at : ℕ)
       → k ≤ 130
       → Holds k addrs sizes outs bs
       → r ≡ record { ok = true; count = k; at = at }
       → Lists r addrs sizes outs (listed bs at)
-  lists-good bs k at l h e =
+  lists_good bs k at l h e =
       let many : r.count ≡ k = ap (λ (q : Side). q.count) e in
       record {
         good = ap (λ (q : Side). q.ok) e;
@@ -192,7 +192,7 @@ module _ (r : Side) (addrs sizes outs : List ℕ) where
   pub lists_end : (s : List ℕ) (at k : ℕ) → k ≤ 130 → r ≡ ends_at s at k → Lists r addrs sizes outs (list_end s at (so_far k addrs sizes outs))
   lists_end s at k l e =
       by_test (stands newline s at)
-      (λ t. rw t (lists-good (so_far k addrs sizes outs) k (suc at) l refl (rw t at e)))
+      (λ t. rw t (lists_good (so_far k addrs sizes outs) k (suc at) l refl (rw t at e)))
       (λ t. rw t (lists_wrong (rw t at e)))
 
 -- a good line has at most 65 buffers more than there were, so that there is room for a second one

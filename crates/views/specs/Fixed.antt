@@ -52,17 +52,17 @@ module _ (r : ℕ) (words lens halves words' lens' halves' : List ℕ) (sides si
   entries j =
       sym (entry_is r words lens halves sides j) ∙ ap (λ (m : Tables). get_or m.kept j no_buffer) e ∙ entry_is r words' lens' halves' sides' j
 
-  pub words-fixed : words ≡ words'
-  words-fixed =
+  pub words_fixed : words ≡ words'
+  words_fixed =
       both_fix 0 r (r * r) words words' s.words_of t.words_of (λ i. ap (λ (d : Desc). d.addr) (descs i)) (λ j. ap (λ (b : Buffer). b.addr) (entries j))
 
-  pub lens-fixed : lens ≡ lens'
-  lens-fixed =
+  pub lens_fixed : lens ≡ lens'
+  lens_fixed =
       both_fix 0 r (r * r) lens lens' s.lens_of t.lens_of (λ i. ap (λ (d : Desc). d.len) (descs i)) (λ j. ap (λ (b : Buffer). b.len) (entries j))
 
-  pub halves-fixed : halves ≡ halves'
+  pub halves_fixed : halves ≡ halves'
   unfolding tables_of
-  halves-fixed =
+  halves_fixed =
       ext_get_or 0 halves halves' (s.halves_of ∙ sym t.halves_of)
       (λ i l. by_test (ltb i r)
       (λ u. section 0 0 r halves halves' (λ j. ap (λ (d : Desc). d.next) (descs j)) i (omega arith) (let v = ltb-true i r u in omega arith))
@@ -70,7 +70,7 @@ module _ (r : ℕ) (words lens halves words' lens' halves' : List ℕ) (sides si
       (λ v. section 0 r r halves halves' (λ j. ap (λ (d : Desc). d.flags) (descs j)) i (ltb-false i r u) (let w = ltb-true i (2 * r) v in omega arith))
       (λ v. section 0 (2 * r) r halves halves' (λ j. ap (λ (m : Tables). get_or m.noted j 0) e) i (ltb-false i (2 * r) v) (let n = s.halves_of in omega arith))))
 
-  pub sides-fixed : sides ≡ sides'
-  sides-fixed =
+  pub sides_fixed : sides ≡ sides'
+  sides_fixed =
       ext_get_or false sides sides' (s.sides_of ∙ sym t.sides_of)
       (λ i l. section false 0 (r * r) sides sides' (λ j. ap (λ (b : Buffer). b.output) (entries j)) i (omega arith) (let n = s.sides_of in omega arith))

@@ -9,7 +9,7 @@ use Rattle.virtio.specs.declared.Desc.{Desc}
 use Rattle.rules.specs.Record.{desc_of, next_of, is_indirect}
 use Rattle.tables.specs.Ready.{closed}
 use Rattle.access.specs.Bounds.{queue, landed, buffer_within}
-use Rattle.access.specs.Cases.{listed_head, entry_case, direct-case}
+use Rattle.access.specs.Cases.{listed_head, entry_case, direct_case}
 use Rattle.access.proofs.buffer_access.Goals.{Start}
 use Rattle.access.proofs.buffer_access.Goals as goal
 
@@ -51,6 +51,6 @@ pub returns-else-h-eq1 : goal.returns-else-h-eq1
 returns-else-h-eq1 c =
     let at : ℕ = c.hop-at.result in
     let to : at ≡ hop (next_of ((queue c.requires.ready))) c.args.i c.args.head = c.hop-at.ensures c.args.words.now c.args.lens.now c.args.sides.now in (
-      direct-case ((queue c.requires.ready)) c.args.head c.desc_at-h.result (c.desc_at-h.ensures c.args.sides.now) c.args.i at c.desc_at.result c.with_next-d.result c.if-h-eq1.false to (c.desc_at.ensures c.args.sides.now) c.with_next-d.ensures,
+      direct_case ((queue c.requires.ready)) c.args.head c.desc_at-h.result (c.desc_at-h.ensures c.args.sides.now) c.args.i at c.desc_at.result c.with_next-d.result c.if-h-eq1.false to (c.desc_at.ensures c.args.sides.now) c.with_next-d.ensures,
       (landed c.requires.ready at c.args.i c.args.head to c.requires.adding.head.below).0,
     )

@@ -7,7 +7,7 @@ use Rattle.access.specs.Accesses.{memory}
 use Rattle.refusals.specs.Checked.{Indices}
 use Rattle.record.specs.Abs.{Arrays}
 use Rattle.exports.specs.Flat.{core_of, queue_of}
-use Rattle.exports.specs.Closed.{peek-back}
+use Rattle.exports.specs.Closed.{peek_back}
 use Rattle.exports.proofs.mayketura_peek_used.Statement.{statement}
 use Rattle.exports.proofs.mayketura_peek_used.Tie as tie
 
@@ -40,7 +40,7 @@ returns : tie.Need-returns
 returns c =
     let s : tie.Start = c.before.before.before.before.before.before.before.before.before.before.before.before in
     let d : tie.After-peek-used = c.before.before.before.before.before in
-    peek-back (queue_of s.args.q) d.before.before.before.queue-of.result d.peek_used_call.result (queue_of c.flat_of_lem.result) (lent s) _
+    peek_back (queue_of s.args.q) d.before.before.before.queue-of.result d.peek_used_call.result (queue_of c.flat_of_lem.result) (lent s) _
     (arrays s) (indices s) refl d.before.before.before.queue-of.ensures (ap queue_of c.flat_of_lem.ensures)
     d.peek_used_call.ensures
 

@@ -8,7 +8,7 @@ use Rattle.opens.specs.Given.{given}
 use Rattle.refusals.specs.Checked.{Indices}
 use Rattle.record.specs.Abs.{Arrays}
 use Rattle.exports.specs.Flat.{core_of, queue_of}
-use Rattle.exports.specs.Closed.{pop-back}
+use Rattle.exports.specs.Closed.{pop_back}
 use Rattle.exports.proofs.mayketura_pop_used.Statement.{statement}
 use Rattle.exports.proofs.mayketura_pop_used.Tie as tie
 
@@ -41,7 +41,7 @@ returns : tie.Need-returns
 returns c =
     let s : tie.Start = c.before.before.before.before.before.before.before.before.before.before.before.before.before.before.before in
     let d : tie.After-pop-used = c.before.before.before.before.before in
-    pop-back (queue_of s.args.q) d.before.before.before.queue-of.result d.pop_used_call.result (queue_of c.flat_of_lem.result) (lent s) _
+    pop_back (queue_of s.args.q) d.before.before.before.queue-of.result d.pop_used_call.result (queue_of c.flat_of_lem.result) (lent s) _
     (arrays s) (indices s) refl d.before.before.before.queue-of.ensures (ap queue_of c.flat_of_lem.ensures) s.args.token
     (given s.args.addrs.now s.args.sizes.now s.args.outs.now) d.pop_used_call.ensures
 

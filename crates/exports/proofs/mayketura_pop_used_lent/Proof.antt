@@ -13,7 +13,7 @@ use Rattle.record.specs.Abs.{Arrays}
 use Rattle.record.specs.Lent.{has_room}
 use Rattle.exports.specs.declared.Plain.{Plain}
 use Rattle.exports.specs.Flat.{core_of, lent_of}
-use Rattle.exports.specs.Closed.{pop-back}
+use Rattle.exports.specs.Closed.{pop_back}
 use Rattle.exports.proofs.mayketura_pop_used_lent.Statement.{statement}
 use Rattle.exports.proofs.mayketura_pop_used_lent.Tie as tie
 
@@ -74,7 +74,7 @@ returns c =
     let d : tie.After-pop-used = c.before.before.before.before.before in
     let a : Queue = (answered d).queue in
     let k : Core = d.before.before.before.before.before.before.before.core-of.result in
-    pop-back (held s (core_of s.args.p)) (held s k) (answered d) (lent_of c.plain_of_lem.result a.words a.lens a.halves a.sides) (lent s) _
+    pop_back (held s (core_of s.args.p)) (held s k) (answered d) (lent_of c.plain_of_lem.result a.words a.lens a.halves a.sides) (lent s) _
     (arrays d.before (core_of s.args.p)) (indices s) refl (ap (held s) d.before.before.before.before.before.before.before.core-of.ensures)
     (ap (λ (p : Plain). lent_of p a.words a.lens a.halves a.sides) c.plain_of_lem.ensures)
     s.args.token (given s.args.addrs.now s.args.sizes.now s.args.outs.now) d.pop_used_call.ensures

@@ -3,7 +3,7 @@ use mathlib.Core.List.{List, ◌++◌}
 use Prim.Native.Nat.{ℕ}
 use Rattle.print.specs.Words.{word_answer, word_value, word_steps, word_free}
 use Rattle.print.specs.Print.{field_line}
-use Rattle.print.specs.Laws.{five-pieces}
+use Rattle.print.specs.Laws.{five_pieces}
 use borrow.Author.Rules.{rules}
 use Rattle.print.proofs.put_report.Statement.{statement}
 use Rattle.print.proofs.put_report.Tie as tie
@@ -52,7 +52,7 @@ returns c =
     let steps : List ℕ = field_line word_steps s.args.steps in
     let free : List ℕ = field_line word_free s.args.free in
     λ before said w.
-    five-pieces said op answer value steps free
+    five_pieces said op answer value steps free
     (line5.put-field4.ensures before (said ++ op ++ answer ++ value ++ steps)
     (line4.put-field3.ensures before (said ++ op ++ answer ++ value)
     (line3.put-field2.ensures before (said ++ op ++ answer)

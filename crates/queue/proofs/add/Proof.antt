@@ -5,7 +5,7 @@ use Rattle.refusals.specs.Checked.{Indices}
 use mathlib.Core.List.{List}
 use Rattle.virtio.specs.declared.Buffer.{Buffer}
 use Rattle.opens.specs.Given.{given}
-use Rattle.queue.specs.Going.{add-going}
+use Rattle.queue.specs.Going.{add_going}
 use borrow.Author.Rules.{rules}
 use Rattle.queue.proofs.add.Statement.{statement}
 use Rattle.queue.proofs.add.Tie as tie
@@ -24,7 +24,7 @@ finish-requires : tie.Need-finish-requires
 finish-requires c κs =
     let s : tie.Start = c.before.before.before.before.before.before.before.before.before.before.before.before.before.before.before.before.before.before.before.before.before.before.before.before.before.before.before.before.before.before.before in
     let o : tie.After-open-add = c.before.before.before.before.before.before.before.before.before.before.before.before.before.before in
-    add-going s.args.c s.args.room s.args.words.now s.args.lens.now s.args.halves.now s.args.sides.now s.args.one.now s.args.two.now s.args.pool.now o.open-add.result s.requires (indices s) o.open-add.new.1.1.0 o.open-add.new.1.1.1.0 o.open-add.new.1.1.1.1.0 o.open-add.new.1.1.1.1.1.0 o.open-add.auto.1.1.0 o.open-add.auto.1.1.1.0 o.open-add.auto.1.1.1.1.0 o.open-add.auto.1.1.1.1.1.0 (list_of_lem s) o.open-add.ensures
+    add_going s.args.c s.args.room s.args.words.now s.args.lens.now s.args.halves.now s.args.sides.now s.args.one.now s.args.two.now s.args.pool.now o.open-add.result s.requires (indices s) o.open-add.new.1.1.0 o.open-add.new.1.1.1.0 o.open-add.new.1.1.1.1.0 o.open-add.new.1.1.1.1.1.0 o.open-add.auto.1.1.0 o.open-add.auto.1.1.1.0 o.open-add.auto.1.1.1.1.0 o.open-add.auto.1.1.1.1.1.0 (list_of_lem s) o.open-add.ensures
 
 same_length : tie.Need-same-length
 same_length c =

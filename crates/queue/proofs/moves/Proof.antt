@@ -11,7 +11,7 @@ use Rattle.views.specs.Tables.{tables_of, queue_of}
 use Rattle.tables.specs.Ready.{Ready, Fitting}
 use Rattle.access.specs.Accesses.{memory}
 use Rattle.asks.specs.Outcomes.{done_of}
-use Rattle.queue.specs.Steps.{Running, Kept, Ready-on, fitting-on, run-turn, run_closed, run_over}
+use Rattle.queue.specs.Steps.{Running, Kept, ready_on, fitting_on, run_turn, run_closed, run_over}
 use Rattle.queue.proofs.moves.Statement.{statement}
 use Rattle.queue.proofs.moves.Tie as tie
 
@@ -115,9 +115,9 @@ loop-again c =
       pool_kept = d.step.auto.1.1.1.1.1.1.1.1.0;
     } in (
       record {
-        same = l.loop.invariant.0.same ∙ run-turn l.loop.r.core s.args.room l.loop.words l.loop.lens l.loop.halves l.loop.sides l.loop.one s.args.two.now l.loop.pool d.step.result _ _ _ _ _ _ d.step.ensures l.loop.r.answer l.loop.r.value l.loop.r.steps l.loop.left c.counted.result o t c.counted.ensures;
-        ready = subst (λ x. Ready x s.args.room d.step.new.1.1.0 d.step.new.1.1.1.0 d.step.new.1.1.1.1.0 d.step.new.1.1.1.1.1.0) (sym e) (Ready-on l.loop.r.core s.args.room l.loop.words l.loop.lens l.loop.halves l.loop.sides l.loop.one s.args.two.now l.loop.pool d.step.result _ _ _ _ _ _ d.step.ensures k.words_kept k.lens_kept k.halves_kept k.sides_kept l.loop.invariant.0.ready);
-        fitting = subst (λ x. Fitting x d.step.new.1.1.1.1.1.1.0 s.args.two.now d.step.new.1.1.1.1.1.1.1.1.0) (sym e) (fitting-on l.loop.r.core s.args.room l.loop.words l.loop.lens l.loop.halves l.loop.sides l.loop.one s.args.two.now l.loop.pool d.step.result _ _ _ _ _ _ d.step.ensures k.one_kept k.pool_kept l.loop.invariant.0.fitting);
+        same = l.loop.invariant.0.same ∙ run_turn l.loop.r.core s.args.room l.loop.words l.loop.lens l.loop.halves l.loop.sides l.loop.one s.args.two.now l.loop.pool d.step.result _ _ _ _ _ _ d.step.ensures l.loop.r.answer l.loop.r.value l.loop.r.steps l.loop.left c.counted.result o t c.counted.ensures;
+        ready = subst (λ x. Ready x s.args.room d.step.new.1.1.0 d.step.new.1.1.1.0 d.step.new.1.1.1.1.0 d.step.new.1.1.1.1.1.0) (sym e) (ready_on l.loop.r.core s.args.room l.loop.words l.loop.lens l.loop.halves l.loop.sides l.loop.one s.args.two.now l.loop.pool d.step.result _ _ _ _ _ _ d.step.ensures k.words_kept k.lens_kept k.halves_kept k.sides_kept l.loop.invariant.0.ready);
+        fitting = subst (λ x. Fitting x d.step.new.1.1.1.1.1.1.0 s.args.two.now d.step.new.1.1.1.1.1.1.1.1.0) (sym e) (fitting_on l.loop.r.core s.args.room l.loop.words l.loop.lens l.loop.halves l.loop.sides l.loop.one s.args.two.now l.loop.pool d.step.result _ _ _ _ _ _ d.step.ensures k.one_kept k.pool_kept l.loop.invariant.0.fitting);
         count = (let z : l.loop.r.steps + l.loop.left ≡ s.args.budget = l.loop.invariant.0.count in omega arith);
       },
       record {

@@ -2,7 +2,7 @@
 use mathlib.Core.Path.{ap, ◌∙◌}
 use Rattle.rules.specs.Calls.{whole}
 use Rattle.refusals.specs.Checked.{Indices}
-use Rattle.queue.specs.Going.{peek-going}
+use Rattle.queue.specs.Going.{peek_going}
 use borrow.Author.Rules.{rules}
 use Rattle.queue.proofs.peek_used.Statement.{statement}
 use Rattle.queue.proofs.peek_used.Tie as tie
@@ -17,7 +17,7 @@ open-peek-requires c κs = search rules
 finish-requires : tie.Need-finish-requires
 finish-requires c κs =
     let s : tie.Start = c.before.before.before.before.before.before.before.before.before.before.before.before.before.before.before.before.before.before.before.before in
-    peek-going s.args.c s.args.room s.args.words.now s.args.lens.now s.args.halves.now s.args.sides.now s.args.one.now s.args.two.now s.args.pool.now c.before.before.before.before.before.before.open-peek.result s.requires (indices s) c.before.before.before.before.before.before.open-peek.ensures
+    peek_going s.args.c s.args.room s.args.words.now s.args.lens.now s.args.halves.now s.args.sides.now s.args.one.now s.args.two.now s.args.pool.now c.before.before.before.before.before.before.open-peek.result s.requires (indices s) c.before.before.before.before.before.before.open-peek.ensures
 
 same_length : tie.Need-same-length
 same_length c = search rules

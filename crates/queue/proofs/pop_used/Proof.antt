@@ -5,7 +5,7 @@ use Rattle.refusals.specs.Checked.{Indices}
 use mathlib.Core.List.{List}
 use Rattle.virtio.specs.declared.Buffer.{Buffer}
 use Rattle.opens.specs.Given.{given}
-use Rattle.queue.specs.Going.{pop-going}
+use Rattle.queue.specs.Going.{pop_going}
 use borrow.Author.Rules.{rules}
 use Rattle.queue.proofs.pop_used.Statement.{statement}
 use Rattle.queue.proofs.pop_used.Tie as tie
@@ -23,7 +23,7 @@ open-pop-requires c κs = search rules
 finish-requires : tie.Need-finish-requires
 finish-requires c κs =
     let s : tie.Start = c.before.before.before.before.before.before.before.before.before.before.before.before.before.before.before.before.before.before.before.before.before.before.before in
-    pop-going s.args.c s.args.room s.args.words.now s.args.lens.now s.args.halves.now s.args.sides.now s.args.one.now s.args.two.now s.args.pool.now c.before.before.before.before.before.before.open-pop.result s.requires (indices s) s.args.token (list_of_lem s) c.before.before.before.before.before.before.open-pop.ensures
+    pop_going s.args.c s.args.room s.args.words.now s.args.lens.now s.args.halves.now s.args.sides.now s.args.one.now s.args.two.now s.args.pool.now c.before.before.before.before.before.before.open-pop.result s.requires (indices s) s.args.token (list_of_lem s) c.before.before.before.before.before.before.open-pop.ensures
 
 same_length : tie.Need-same-length
 same_length c = search rules

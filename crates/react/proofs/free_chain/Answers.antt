@@ -3,7 +3,7 @@ use Rattle.std.proofs.Common.{◌≡◌, arith, ◌≤◌, ◌<◌}
 use Rattle.rules.specs.Record.{desc_of, noted_of}
 use Rattle.views.specs.Tables.{tables_of, queue_of}
 use Rattle.tables.specs.Ready.{closed}
-use Rattle.react.specs.Freed.{noted_most, list_fits, freed-is}
+use Rattle.react.specs.Freed.{noted_most, list_fits, freed_is}
 use Rattle.react.proofs.free_chain.Goals.{After-noted_at-k}
 use Rattle.react.proofs.free_chain.Goals as goal
 
@@ -40,7 +40,7 @@ returns c =
     let w : _ = c.free_descs in
     let p : _ = c.put_noted in
     let l : _ = c.clear_entries in
-    freed-is c.args.c (tables_of c.args.room c.args.words.now c.args.lens.now c.args.halves.now c.args.sides.now) c.args.token
+    freed_is c.args.c (tables_of c.args.room c.args.words.now c.args.lens.now c.args.halves.now c.args.sides.now) c.args.token
     c.desc_at-d.result
     c.noted_at-k.result
     c.list_count.result

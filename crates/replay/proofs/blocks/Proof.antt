@@ -4,7 +4,7 @@ use mathlib.Core.Path.{refl, ◌∙◌}
 use mathlib.Core.Bool.{Bool}
 use native.Mathlib.Omega.{arith}
 use borrow.Author.Tests.{not-true, not-false}
-use Rattle.replay.specs.Blocks.{Turning, rest-turn, rest_none, rest_ended, rest_read, sized_kept}
+use Rattle.replay.specs.Blocks.{Turning, rest_turn, rest_none, rest_ended, rest_read, sized_kept}
 use Rattle.replay.proofs.blocks.Statement.{statement}
 use Rattle.replay.proofs.blocks.Tie as tie
 
@@ -53,7 +53,7 @@ loop-again c =
     let going : Bool = at-loop.loop.p.going in
     record {
       goes = λ before q h.
-          rest-turn
+          rest_turn
           at-loop.loop.left
           (at-loop.loop.invariant.goes before q h)
           (omega (arith, in-loop.loop-test.true))

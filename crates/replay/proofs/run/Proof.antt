@@ -3,7 +3,7 @@
 use native.Mathlib.Omega.{arith}
 use borrow.Author.Rules.{rules}
 use Rattle.replay.specs.Replay.{opened}
-use Rattle.replay.specs.Header.{size_range, two_lent, opened-plays}
+use Rattle.replay.specs.Header.{size_range, two_lent, opened_plays}
 use Rattle.replay.proofs.run.Statement.{statement}
 use Rattle.replay.proofs.run.Tie as tie
 use Rattle.replay.proofs.run.Reads as reads
@@ -60,7 +60,7 @@ returns c before text w =
     (after-blocks2.blocks2.ensures
     before
     (opened s.args.n s.args.modes.indirect s.args.modes.event_idx s.args.at text)
-    (opened-plays s.args.n s.args.modes s.args.at s.args.said text after-new.new.result s.requires.0.1 s.requires.1 after-new.new.ensures w)
+    (opened_plays s.args.n s.args.modes s.args.at s.args.said text after-new.new.result s.requires.0.1 s.requires.1 after-new.new.ensures w)
     ).wrote
 
 pub run_spec : {M : Type 1} → statement M

@@ -8,7 +8,7 @@ use lib.Dec.{leb}
 use lib.ListN.{get_or}
 use Rattle.lists.specs.Tests.{and_left}
 use Rattle.text.specs.Text.{digit}
-use Rattle.text.specs.Laws.{digits_over, digits_stop, digits_wide, digits-next}
+use Rattle.text.specs.Laws.{digits_over, digits_stop, digits_wide, digits_next}
 use Rattle.text.proofs.digits.Goals as goal
 
 pub loop-i-init : goal.loop-i-init
@@ -75,7 +75,7 @@ loop-i-preserved c =
     let e : digit (get_or s.src.now l.i 0) ≡ true = sym t.ensures ∙ not-false t.result c.if-not-is_digit.false-raw in
     let f : leb (l.value * 10 + (w.result - 48)) s.most ≡ true =
     not-false (leb (l.value * 10 + (w.result - 48)) s.most) (sym c.over.ensures ∙ c.if-over.false) in
-    sym (digits-next s.most s.src.now l.i l.value w.result w.ensures (omega arith) e f) ∙ l.invariant
+    sym (digits_next s.most s.src.now l.i l.value w.result w.ensures (omega arith) e f) ∙ l.invariant
 
 pub returns : goal.returns
 returns c =

@@ -11,7 +11,7 @@ use Rattle.virtio.specs.declared.Buffer.{Buffer}
 use Rattle.text.specs.Words.{comma}
 use Rattle.text.specs.Text.{stands, list_end, entries}
 use Rattle.text.specs.Laws.{stands_fits}
-use Rattle.text.specs.Turns.{so_far, buffer, held_more, entries_over, entries_bad, entries-last, entries_next, lists_by, lists_wrong, lists_end}
+use Rattle.text.specs.Turns.{so_far, buffer, held_more, entries_over, entries_bad, entries_last, entries_next, lists_by, lists_wrong, lists_end}
 use Rattle.text.proofs.entries.Goals as goal
 
 pub loop-left-init : goal.loop-left-init
@@ -51,7 +51,7 @@ returns-then-not-stands c =
     λ bs h.
     lists_by c.list_end.result xs ys zs
     (ap (list_end s.src.now e.result.at) grown
-    ∙ sym (entries-last o s.src.now l.p more e.result e.ensures l.left (omega arith) good k)
+    ∙ sym (entries_last o s.src.now l.p more e.result e.ensures l.left (omega arith) good k)
     ∙ l.invariant.5
     ∙ ap (entries 65 o s.src.now s.at) h)
     (lists_end c.list_end.result xs ys zs s.src.now e.result.at (l.count + 1) (omega arith) c.list_end.ensures)

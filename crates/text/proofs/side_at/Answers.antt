@@ -10,8 +10,8 @@ use Rattle.lists.specs.Tests.{by_eq}
 use Rattle.text.specs.Words.{newline, line_none}
 use Rattle.text.specs.Text.{stands}
 use Rattle.text.specs.Laws.{stands_fits}
-use Rattle.text.specs.Lines.{side_of, side_no_key, side_word, side-nothing, side-entries}
-use Rattle.text.specs.Turns.{lists_by, lists_wrong, lists-good}
+use Rattle.text.specs.Lines.{side_of, side_no_key, side_word, side_nothing, side_entries}
+use Rattle.text.specs.Turns.{lists_by, lists_wrong, lists_good}
 use Rattle.text.proofs.side_at.Goals as goal
 
 pub returns-then-not-stands : goal.returns-then-not-stands
@@ -52,7 +52,7 @@ returns-then-stands c =
     λ bs h.
     lists_by (side_of true s.from (p + 5)) s.addrs.now s.sizes.now s.outs.now
     (sym (side_word s.key.now (not (eqb s.output 0)) s.src.now s.at bs k e))
-    (lists-good (side_of true s.from (p + 5)) s.addrs.now s.sizes.now s.outs.now bs s.from (p + 5) (omega arith) h refl)
+    (lists_good (side_of true s.from (p + 5)) s.addrs.now s.sizes.now s.outs.now bs s.from (p + 5) (omega arith) h refl)
 
 pub overflow_add-result-then-stands-2 : goal.overflow_add-result-then-stands-2
 overflow_add-result-then-stands-2 c =
@@ -74,8 +74,8 @@ returns-then-stands-2 c =
     let e : stands newline s.src.now p ≡ true = sym c.stands-3.ensures ∙ c.if-stands-2.true in
     λ bs h.
     lists_by (side_of true s.from (p + 1)) s.addrs.now s.sizes.now s.outs.now
-    (sym (side-nothing s.key.now (not (eqb s.output 0)) s.src.now s.at bs k d e))
-    (lists-good (side_of true s.from (p + 1)) s.addrs.now s.sizes.now s.outs.now bs s.from (p + 1) (omega arith) h refl)
+    (sym (side_nothing s.key.now (not (eqb s.output 0)) s.src.now s.at bs k d e))
+    (lists_good (side_of true s.from (p + 1)) s.addrs.now s.sizes.now s.outs.now bs s.from (p + 1) (omega arith) h refl)
 
 pub returns : goal.returns
 returns c =
@@ -90,4 +90,4 @@ returns c =
     let r : _ = c.entries in
     λ bs h.
     lists_by r.result r.new.addrs r.new.sizes r.new.outs
-    (sym (side-entries s.key.now (not (eqb s.output 0)) s.src.now s.at bs k d e)) (r.ensures bs h)
+    (sym (side_entries s.key.now (not (eqb s.output 0)) s.src.now s.at bs k d e)) (r.ensures bs h)
