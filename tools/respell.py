@@ -15,6 +15,7 @@ CHOSEN = {
     "ListedSame": "listed_same",
     "field_own": "own_at",
     "Ready-on": "ready_on",
+    "head-desc": "head_desc_lem",
     "in-turn": "in_turn_lem",
     "list-of": "list_of_lem",
     "tables-of": "tables_of_lem",

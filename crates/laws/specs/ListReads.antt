@@ -56,15 +56,15 @@ module _ (q : Queue) (m : Memory) (bs : List Buffer) (g : Good q) (a : Addable q
   small = power_most q.n g.well.size.0 g.well.size.1 g.well.size.2
 
   -- what the record holds: the head's descriptor, its chain of one, and the list
-  head_desc : desc_of p head ≡ head_desc q head k
-  head_desc =
+  head_desc_lem : desc_of p head ≡ head_desc q head k
+  head_desc_lem =
       get_or-set_same q.tables.shadow head (head_desc q head k) no_desc (let b : head < q.n = g.well.free in let f : q.n ≤ length q.tables.shadow = g.held.shadow in omega arith)
 
   listed : is_indirect p head ≡ true
-  listed = ap has_indirect head_desc
+  listed = ap has_indirect head_desc_lem
 
   entries : entries_of p head ≡ k
-  entries = ap (λ d. d.len / 16) head_desc ∙ (omega arith)
+  entries = ap (λ d. d.len / 16) head_desc_lem ∙ (omega arith)
 
   last_head : last_of p head ≡ head
   unfolding hop
@@ -150,8 +150,8 @@ module _ (q : Queue) (m : Memory) (bs : List Buffer) (g : Good q) (a : Addable q
       let b : head < q.n = g.well.free in
       rings_desc q.n last (q.counts.avail % q.n) head (after q.counts.avail) head b
       ∙ ap (λ x. desc_at (put_desc s (16 * x) (desc_of p x)) (16 * head)) last_head
-      ∙ desc_put_same s (16 * head) (desc_of p head) (omega arith) (subst Fit (sym head_desc) head_fit)
-      ∙ head_desc
+      ∙ desc_put_same s (16 * head) (desc_of p head) (omega arith) (subst Fit (sym head_desc_lem) head_fit)
+      ∙ head_desc_lem
 
   -- THE LAW: what the device reads after an indirect add
   pub list_publishes : Reads q.modes.legacy q.n q.base (published (add_indirect q bs) q.counts.free (length bs) m) q.counts.avail q.counts.free bs

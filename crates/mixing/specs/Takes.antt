@@ -16,7 +16,7 @@ use Rattle.virtio.specs.Desc.{has_next, has_indirect, buffer_of, desc_at}
 use Rattle.virtio.specs.Memory.{Memory, avail_idx, avail_ring, spot, load_at}
 use Rattle.virtio.specs.Chain.{in_order, Found, lost, found, before, follow, no_indirect, as_list, table_desc, list_desc, list_ok, list_of}
 use Rattle.virtio.specs.Chain.{expand, expanded, faulty, buffers, meant, chain_at}
-use Rattle.mixing.specs.Device.{Wiring, take_next, none_available, took, doing_table, in_list, Doing, resting, take_idx, take_head, take_chain}
+use Rattle.mixing.specs.Device.{Wiring, take_next, none_available, took, in_table, in_list, Doing, resting, take_idx, take_head, take_chain}
 use Rattle.mixing.specs.Device.{Worked, acting, doing, goes, comes, takes, reads, work}
 use Rattle.mixing.specs.Mix.{act, tick, Trace, works, event, trace}
 use Rattle.mixing.specs.Demand.{whole_act, steps_of}
@@ -250,7 +250,7 @@ module _ (w : Wiring) where
     desc_of = table_desc t.memory
 
     abbrev doing_table : ℕ → ℕ → List Buffer → Doing
-    doing_table k i bs = take_chain h k doing_table i bs
+    doing_table k i bs = take_chain h k in_table i bs
 
     table_goes : (k i : ℕ) (bs : List Buffer) → has_indirect (desc_of i) ≡ false → has_next (desc_of i) ≡ true
         → event w tick (during t (doing_table (suc k) i bs)) ≡ during t (doing_table k (desc_of i).next (bs ++ (buffer_of (desc_of i) ∷ [])))
@@ -390,10 +390,10 @@ module _ (w : Wiring) where
         (ap (λ b. cond b (comes t.device none_available t.memory) (goes t.device take_head t.memory))
         (ne_eqb (load_at (spot w.legacy w.n avail_idx) t.memory) t.device.taken v.available))
 
-    heads : event w tick (during u take_head) ≡ during u (take_chain h (w.n + 1) doing_table h [])
+    heads : event w tick (during u take_head) ≡ during u (take_chain h (w.n + 1) in_table h [])
     heads =
         tick_goes u take_head _ refl
-        (ap (λ x. goes t.device (take_chain x (w.n + 1) doing_table x []) t.memory) v.slot)
+        (ap (λ x. goes t.device (take_chain x (w.n + 1) in_table x []) t.memory) v.slot)
 
     -- THE LAW: n + 3 ticks are enough, so the cut after n + 1 descriptors, which would be tick n + 4, is not met
     pub takes_soon : (b : ℕ) → w.n < b → trace w (act take_next ∷ tick ∷ tick ∷ replicate b tick) t ≡ ending u h bs
