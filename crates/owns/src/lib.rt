@@ -1,5 +1,7 @@
 // The owning queue's own clauses and refusals (document 01, "Owning" in "When the queue says no"), over lent words: each outstanding chain is its
 // token's own buffer, all are outstanding but a held one; and by which number a call is refused.
+#![tactic(auto)]
+
 ghost use Rattle.std.specs.Prelude.{◌≡◌, not, ◌&&◌, ◌||◌, [], ◌∷◌, ℕ, ◌+◌, ◌*◌, ◌≤◌, ◌<◌, ◌^◌, eqb};
 ghost use Rattle.lists.specs.Pick.{first, every, rising, same};
 ghost use Rattle.rules.specs.declared.Held.TheVariants.{Holds};
