@@ -1,5 +1,7 @@
 // The queue's calls over lent words and bytes (document 01, "Rules of the calls", "Step by step", "When the queue says no"): refusals in their order,
 // openings, runs with a budget, and whole calls; crate asks has those of a single step. The record with its tables inside (crate record) lends them to these.
+#![tactic(auto)]
+
 ghost use Rattle.std.specs.Prelude.{◌≡◌, ◌+◌, ◌<◌, ◌^◌};
 ghost use Rattle.rules.specs.Step.{move};
 ghost use Rattle.rules.specs.Calls.{open_add, open_pop, open_peek, moves as moves_is, run as run_is, whole, add as add_is, pop_used, peek_used, opened as opened_is};
