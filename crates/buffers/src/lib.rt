@@ -13,14 +13,14 @@ use record::{Answer, Queue};
 use virtio::Buffer;
 
 // An outstanding chain: the queue, and the token that add answered.
-#[derive(Drop)]
+#[derive(Clone, Copy)]
 pub struct Outstanding {
     pub queue: Queue,
     pub token: u32,
 }
 
 // A list that was copied: how many buffers it has, the first 65 of them, whether there is an output, and whether an input comes after one.
-#[derive(Drop)]
+#[derive(Clone, Copy)]
 struct Gathered {
     count: usize,
     addrs: [u64; 65],

@@ -6,7 +6,7 @@ use print::{put_number, put_text, write_first};
 use record::{Answer, Queue};
 
 // How much of each region and of the store is lent, and what lines show: 0 all, 1 what the crate too can tell, 2 that and the bytes.
-#[derive(Drop)]
+#[derive(Clone, Copy)]
 pub struct Lent {
     pub one: usize,
     pub two: usize,
@@ -16,14 +16,14 @@ pub struct Lent {
 }
 
 // The numbers that only some operations have, at the end of their lines.
-#[derive(Drop)]
+#[derive(Clone, Copy)]
 pub struct Tail {
     pub count: usize,
     pub numbers: [u64; 6],
 }
 
 // The sums of a line: of regions one and two, the shadow table, the live lists, the pool, and the rest of the tables.
-#[derive(Drop)]
+#[derive(Clone, Copy)]
 struct Sums {
     memory: u64,
     shadow: u64,

@@ -18,7 +18,7 @@ use react::with_call;
 use record::{Answer, Queue};
 
 // The owning record, whose queue the plain calls use, where the script stands, and what is lent and shown.
-#[derive(Drop)]
+#[derive(Clone, Copy)]
 struct Machine {
     owning: Owning,
     at: usize,
@@ -26,7 +26,7 @@ struct Machine {
 }
 
 // What a script says of the memory lent, and where it goes on.
-#[derive(Drop)]
+#[derive(Clone, Copy)]
 struct Told {
     lent: Lent,
     at: usize,

@@ -8,7 +8,7 @@ use record::{Answer, Ask, Made, Queue};
 use rules::Held;
 
 // What new is asked, and where the script goes on.
-#[derive(Drop)]
+#[derive(Clone, Copy)]
 struct Asked {
     ask: Ask,
     at: usize,

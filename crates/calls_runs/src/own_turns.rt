@@ -7,7 +7,7 @@ use record::{Answer, Queue};
 use rules::Held;
 
 // A call's answer, the sum of the bytes that it shows, the record after all that its operation does, and whether the device is to be notified.
-#[derive(Drop)]
+#[derive(Clone, Copy)]
 struct Done {
     owned: Owned,
     sum: u64,

@@ -2,14 +2,14 @@
 ghost use Rattle.std.specs.Prelude.{◌≤◌, length};
 
 // A number of the script, and where the next one is looked for.
-#[derive(Drop)]
+#[derive(Clone, Copy)]
 pub struct Token {
     pub value: u64,
     pub at: usize,
 }
 
 // A list of buffers as three arrays, and how much of each the script gave.
-#[derive(Drop)]
+#[derive(Clone, Copy)]
 pub struct List {
     pub addrs: [u64; 80],
     pub sizes: [u32; 80],

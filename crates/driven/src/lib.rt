@@ -13,7 +13,7 @@ ghost use Rattle.driven.specs.Driven.{MakesEvent, Starts};
 use record::{Answer, Ask, Made, Queue};
 
 // An event of the driver: a call, by name, whose list, if it has one, comes beside it; or a step of the open call.
-#[derive(Drop)]
+#[derive(Clone, Copy)]
 pub enum Event {
     Add,
     PopUsed { token: u32 },

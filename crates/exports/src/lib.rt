@@ -17,7 +17,7 @@ mod single;
 
 // The record's fields beside its tables and the open call.
 #[repr(C)]
-#[derive(Drop)]
+#[derive(Clone, Copy)]
 pub struct Plain {
     pub n: u16,
     pub indirect: bool,
@@ -32,7 +32,7 @@ pub struct Plain {
 
 // The record, with its tables.
 #[repr(C)]
-#[derive(Drop)]
+#[derive(Clone, Copy)]
 pub struct Flat {
     pub plain: Plain,
     pub words: [u64; 4160],
@@ -43,7 +43,7 @@ pub struct Flat {
 
 // What new is asked, as record's Ask.
 #[repr(C)]
-#[derive(Drop)]
+#[derive(Clone, Copy)]
 pub struct FlatAsk {
     pub n: u32,
     pub in_use: bool,
@@ -58,7 +58,7 @@ pub struct FlatAsk {
 
 // What new answers: the number, three addresses, and the record.
 #[repr(C)]
-#[derive(Drop)]
+#[derive(Clone, Copy)]
 pub struct FlatMade {
     pub answer: u8,
     pub table: u64,
@@ -69,7 +69,7 @@ pub struct FlatMade {
 
 // What a call answers, with the record after it.
 #[repr(C)]
-#[derive(Drop)]
+#[derive(Clone, Copy)]
 pub struct FlatAnswer {
     pub answer: u8,
     pub value: u32,
@@ -79,7 +79,7 @@ pub struct FlatAnswer {
 
 // What a call over a lent record answers, with the plain fields after it.
 #[repr(C)]
-#[derive(Drop)]
+#[derive(Clone, Copy)]
 pub struct LentAnswer {
     pub answer: u8,
     pub value: u32,

@@ -12,7 +12,7 @@ use rules::Modes;
 use virtio::Buffer;
 
 // A read of one block: what is asked, where the block goes, and where the device says how it went.
-#[derive(Drop)]
+#[derive(Clone, Copy)]
 struct Request {
     header: Buffer,
     block: Buffer,

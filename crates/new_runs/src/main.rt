@@ -6,7 +6,7 @@ use rules::Modes;
 const TOP: u64 = 18446744073709547520; // 2^64 - 4096
 
 // What is lent: how many bytes of each region and of the pool.
-#[derive(Drop)]
+#[derive(Clone, Copy)]
 struct Lent {
     one: usize,
     two: usize,

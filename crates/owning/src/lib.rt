@@ -20,7 +20,7 @@ use refusals::fits;
 use rules::Held;
 use views::Core;
 
-#[derive(Drop)]
+#[derive(Clone, Copy)]
 pub struct Owning {
     pub queue: Queue,
     pub base: u64,
@@ -29,14 +29,14 @@ pub struct Owning {
 }
 
 // The part of the store that a call shows: none, or so many bytes from an offset on.
-#[derive(Drop)]
+#[derive(Clone, Copy)]
 pub enum Shows {
     Nothing,
     Part { from: usize, count: usize },
 }
 
 // What a call answers: the number, the value, the part of the store that it shows, and the record.
-#[derive(Drop)]
+#[derive(Clone, Copy)]
 pub struct Owned {
     pub answer: u8,
     pub value: u32,

@@ -1,5 +1,7 @@
 // The queue's record as a struct by value, the check of it, and the calls new and available_desc (document 01, "The record" and part 3); the other calls
 // are in calls.rt. The tables lie in arrays at the limit, one for each width, as views lays them out.
+#![tactic(auto)]
+
 ghost use Rattle.std.specs.Prelude.{◌≡◌, cond, [], ◌-◌, ◌≤◌, ◌<◌, ◌^◌, eqb, length};
 ghost use Rattle.virtio.specs.Memory.{Memory};
 ghost use Rattle.virtio.specs.Layout.{need_one, need_two};
@@ -20,7 +22,7 @@ use rules::{Modes, Open};
 use views::Core;
 use wellformed::broken;
 
-#[derive(Drop)]
+#[derive(Clone, Copy)]
 pub struct Queue {
     pub core: Core,
     pub words: [u64; 4160],
@@ -31,7 +33,7 @@ pub struct Queue {
 
 // What new is asked: the size, whether the transport says that the queue is in use, the device's maximum, the modes, and the addresses of the lent
 // regions and of the pool.
-#[derive(Drop)]
+#[derive(Clone, Copy)]
 pub struct Ask {
     pub n: u32,
     pub in_use: bool,
@@ -43,7 +45,7 @@ pub struct Ask {
 }
 
 // What new answers: the number, the addresses of table, available ring and used ring for the transport, and the record.
-#[derive(Drop)]
+#[derive(Clone, Copy)]
 pub struct Made {
     pub answer: u8,
     pub table: u64,
@@ -53,7 +55,7 @@ pub struct Made {
 }
 
 // What a call answers: the number, the value, how many loads and stores were made; and the record after it.
-#[derive(Drop)]
+#[derive(Clone, Copy)]
 pub struct Answer {
     pub answer: u8,
     pub value: u32,
@@ -62,7 +64,7 @@ pub struct Answer {
 }
 
 // A number and a value.
-#[derive(Drop)]
+#[derive(Clone, Copy)]
 pub struct Told {
     pub answer: u8,
     pub value: u16,

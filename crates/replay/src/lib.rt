@@ -26,7 +26,7 @@ use rules::Modes;
 use text::{Number, field, side_at, stands};
 
 // A replay under way: the queue and its size, where the text is read, the number of the line there, how much was printed, and whether it goes on.
-#[derive(Drop)]
+#[derive(Clone, Copy)]
 pub struct Played {
     pub queue: Queue,
     pub size: u16,
@@ -87,7 +87,7 @@ fn called(p: Played, op: &[u8], r: Answer, at: usize, k: usize, out: &mut [u8]) 
 }
 
 // The two lists of an add or a pop: which of their lines is wrong, 0 for none; how many buffers there are, and where the next line starts.
-#[derive(Drop)]
+#[derive(Clone, Copy)]
 pub struct Both {
     pub bad: usize,
     pub count: usize,

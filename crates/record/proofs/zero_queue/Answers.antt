@@ -4,11 +4,7 @@ use mathlib.Core.Path.{ap}
 use Rattle.views.specs.Tables.{queue_of}
 use Rattle.views.specs.Fresh.{zero_tables}
 use Rattle.record.specs.Abs.{zero_core}
-use Rattle.record.proofs.zero_queue.Statement.{statement}
-use Rattle.record.proofs.zero_queue.Tie as tie
+use Rattle.record.proofs.zero_queue.Goals as goal
 
-returns : tie.Need-returns
+pub returns : goal.returns
 returns c = ap (queue_of zero_core) (zero_tables 64)
-
-pub zero_queue_spec : {M : Type 1} → statement M
-zero_queue_spec = tie.close (tie.spec returns)

@@ -1,0 +1,11 @@
+-- `record::Queue::open_add` meets its contract: the arrays have room for what the callee asks, and its answer is the answer.
+-- Assumes nothing.
+use borrow.Author.Rules.{rules}
+use Rattle.record.specs.Lent.{has_room}
+use Rattle.record.proofs.Queue.open_add.Goals as goal
+
+pub open_add-done-requires : goal.open_add-done-requires
+open_add-done-requires c = has_room c.args.self (search rules)
+
+pub returns : goal.returns
+returns c = c.open_add-done.ensures
