@@ -1,5 +1,7 @@
 // A queue is taken into use, and the driver's events of demand 3 are made, by the methods of `record`. That these, called one after the other as the events of a
 // mixing say, are that mixing is their contract; `specs/Driven.antt` says what it means.
+#![tactic(auto)]
+
 ghost use Rattle.std.specs.Prelude.{◌≡◌};
 ghost use Rattle.virtio.specs.Memory.{Memory};
 ghost use Rattle.rules.specs.Calls.{available_desc};

@@ -1,5 +1,7 @@
 // The owning queue (document 01, part 4): a queue all of whose buffers lie in one lent store, buffer i under token i. The caller polls for a buffer that
 // the device has filled, looks at its bytes in the store, and releases it. The calls are in calls.rt, on the parts that stand here.
+#![tactic(auto)]
+
 ghost use Rattle.std.specs.Prelude.{◌≡◌, true, ◌&&◌, List, [], ◌∷◌, ℕ, ◌+◌, ◌*◌, ◌≤◌, ◌<◌, ◌^◌, leb};
 ghost use Rattle.virtio.specs.Memory.{Memory};
 ghost use Rattle.rules.specs.Calls.{fits as fits_is, add as add_is, pop_used};

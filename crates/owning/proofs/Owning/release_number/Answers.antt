@@ -1,0 +1,14 @@
+-- The queue's arrays have room for what the callee asks.
+use Rattle.record.specs.Abs.{Arrays}
+use Rattle.record.specs.Lent.{has_room}
+use borrow.Author.Rules.{rules}
+use Rattle.owning.proofs.Owning.release_number.Goals.{Start}
+use Rattle.owning.proofs.Owning.release_number.Goals as goal
+
+-- the lengths, found where there is least to look through
+arrays : (s : Start) → Arrays s.args.self.queue
+arrays s = search rules
+
+pub release_refusal-requires : goal.release_refusal-requires
+release_refusal-requires c =
+    has_room c.args.self.queue (arrays (goal.at.release_refusal-requires c).Start)

@@ -1,0 +1,25 @@
+-- The answer is `add_own` of the queue. The loop's invariant: it is `add_own` of what the adds so far came to.
+use mathlib.Core.Path.{◌≡◌, refl, sym, ◌∙◌}
+use Prim.Native.Nat.{◌-◌, ◌≤◌}
+use native.Mathlib.Nat.{sub-zero}
+use native.Mathlib.Omega.{arith}
+use lib.ListN.{length}
+use Rattle.virtio.specs.Memory.{Memory}
+use Rattle.rules.specs.Owning.{add_own}
+use Rattle.access.specs.Accesses.{memory}
+use Rattle.record.specs.Abs.{abs}
+use Rattle.record.specs.Asked.{answer_of}
+use Rattle.owns.specs.Turns.{address_fits}
+use Rattle.owning.specs.Making.{adds_turn, adds_end}
+use borrow.Author.Rules.{rules}
+use Rattle.owning.proofs.add_all.Given as goal
+
+abbrev pub invariant-loop-i : goal.invariant-loop-i
+invariant-loop-i l =
+    (l.i ≤ l.n)
+    × (length l.one ≡ length l.initial.one)
+    × (length l.pool ≡ length l.initial.pool)
+    × (add_own l.base l.size l.n 0 (abs l.initial.q) (memory l.initial.one l.two l.initial.pool) ≡ add_own l.base l.size (l.n - l.i) l.i (abs l.q) (memory l.one l.two l.pool))
+
+abbrev pub decreases-loop-i : goal.decreases-loop-i
+decreases-loop-i l = l.n - l.i

@@ -1,0 +1,17 @@
+-- The buffer of a token is lent as a list of one.
+use mathlib.Core.Path.{ap, ◌∙◌}
+use mathlib.Core.List.{List}
+use Prim.Native.Nat.{◌+◌, ◌*◌}
+use Rattle.virtio.specs.declared.Buffer.{Buffer}
+use Rattle.virtio.specs.Memory.{Memory}
+use Rattle.rules.specs.Calls.{pop_used}
+use Rattle.access.specs.Accesses.{memory}
+use Rattle.record.specs.Abs.{abs}
+use Rattle.owns.specs.Turns.{own_given}
+use borrow.Author.Rules.{rules}
+use Rattle.owning.proofs.pop_own.Goals as goal
+
+pub returns : goal.returns
+returns c =
+    c.pop_used.ensures
+    ∙ ap (λ (bs : List Buffer). pop_used (abs c.args.queue) (memory c.args.one.now c.args.two.now c.args.pool.now) c.args.t bs) (own_given (c.args.base + c.args.t * c.args.size) c.args.size)
