@@ -1,6 +1,8 @@
 // The queue's calls over a list of buffers lent as a slice of structs. Each entry copies the list into number arrays and makes the call of crate record;
 // its proof is by hand, since a slice of structs is outside what the prover walks by itself.
 // A list of more than 64 buffers fits no queue, and of such a list a call asks only whether it is in order. So 65 buffers can stand for it.
+#![tactic(auto)]
+
 ghost use Rattle.std.specs.Prelude.{◌≡◌, not, ◌||◌, ◌&&◌};
 ghost use Rattle.lists.specs.Pick.{one_if};
 ghost use Rattle.rules.specs.Calls.{open_add, open_pop, add as add_is, pop_used};

@@ -4,6 +4,8 @@ ghost use Rattle.std.specs.Prelude.{◌≤◌};
 use crate::tokens::wide8;
 use print::{put_number, put_text, write_first};
 use record::{Answer, Queue};
+use std::io;
+use std::io::Write;
 
 // How much of each region and of the store is lent, and what lines show: 0 all, 1 what the crate too can tell, 2 that and the bytes.
 #[derive(Clone, Copy)]
@@ -170,16 +172,17 @@ fn sums_of(q: Queue, lent: Lent, one: &[u8], two: &[u8], pool: &[u8]) -> Sums {
 }
 
 // Writes the bytes of a region, as many as are lent.
-fn dump(s: &[u8], count: usize) {
+fn dump<W: Write>(to: &mut W, s: &[u8], count: usize) -> io::Result<()> {
     let mut i: usize = 0;
     while i < s.len() {
         if count <= i {
             break;
         }
-        io::print_hex(1, wide8(s[i]), 2);
+        let byte = s[i];
+        write!(to, "{byte:02x}")?;
         i += 1;
     }
-    io::write_all(1, b"\n");
+    to.write_all(b"\n")
 }
 
 // Puts the numbers at the start of out, with spaces between them, and answers where they end.
@@ -215,18 +218,23 @@ fn put_tail(out: &mut [u8; 500], at: usize, numbers: &[u64; 6], count: usize) ->
 }
 
 // Ends the line at p, and writes it in one go.
-fn write_line(out: &mut [u8; 500], p: usize) {
+fn write_line<W: Write>(to: &mut W, out: &mut [u8; 500], p: usize) -> io::Result<()> {
     let end = put_text(out, p, b"\n");
-    write_first(out, end);
+    write_first(to, out, end)
 }
 
 // Writes the first `count` numbers and the tail as a line: 21 numbers have at most 441 bytes.
-fn print_numbers(numbers: &[u64; 15], count: usize, tail: Tail) {
+fn print_numbers<W: Write>(
+    to: &mut W,
+    numbers: &[u64; 15],
+    count: usize,
+    tail: Tail,
+) -> io::Result<()> {
     let mut space = [0u8; 500];
     let more = tail.numbers;
     let p = put_numbers(&mut space, numbers, count);
     let q = put_tail(&mut space, p, &more, tail.count);
-    write_line(&mut space, q);
+    write_line(to, &mut space, q)
 }
 
 // The tail of an operation that has none.
@@ -239,7 +247,16 @@ pub fn no_tail() -> Tail {
 
 // The line of an answer: the operation, answer and value, the record's plain numbers, what available_desc says, and the sums. The last four
 // numbers before the tail are those that the crate can't tell.
-pub fn line(op: u64, r: Answer, tail: Tail, lent: Lent, one: &[u8], two: &[u8], pool: &[u8]) {
+pub fn line<W: Write>(
+    to: &mut W,
+    op: u64,
+    r: Answer,
+    tail: Tail,
+    lent: Lent,
+    one: &[u8],
+    two: &[u8],
+    pool: &[u8],
+) -> io::Result<()> {
     let queue = r.queue;
     let core = queue.core;
     let told = queue.available_desc();
@@ -261,12 +278,13 @@ pub fn line(op: u64, r: Answer, tail: Tail, lent: Lent, one: &[u8], two: &[u8], 
         s.pool,
         s.kept,
     ];
-    print_numbers(&numbers, shown(lent.show), tail);
+    print_numbers(to, &numbers, shown(lent.show), tail)?;
     if lent.show == 2 {
-        dump(one, lent.one);
-        dump(two, lent.two);
-        dump(pool, lent.pool);
+        dump(to, one, lent.one)?;
+        dump(to, two, lent.two)?;
+        dump(to, pool, lent.pool)?;
     }
+    Ok(())
 }
 
 // How many numbers a line has before its tail.

@@ -1,5 +1,7 @@
 // Runs the queue's calls as a script on standard input tells, and prints a line for each. A script can also write to the lent memory, as a device
 // does, and forge the record. docs/SCRIPTS.md says its operations and what a line shows.
+#![tactic(auto)]
+
 ghost use Rattle.std.specs.Prelude.{length, ◌≡◌};
 
 mod forge;
@@ -16,6 +18,8 @@ use crate::tokens::{capped, number, read_list};
 use owning::Owning;
 use react::with_call;
 use record::{Answer, Queue};
+use std::io;
+use std::io::Write;
 
 // The owning record, whose queue the plain calls use, where the script stands, and what is lent and shown.
 #[derive(Clone, Copy)]
@@ -124,7 +128,8 @@ fn with_queue(m: Machine, queue: Queue, at: usize) -> Machine {
 }
 
 // Operations 2 to 5: a token, a list, and the call.
-fn list_turn(
+fn list_turn<W: Write>(
+    to: &mut W,
     op: u64,
     src: &[u8],
     at: usize,
@@ -132,7 +137,7 @@ fn list_turn(
     one: &mut [u8],
     two: &[u8],
     pool: &mut [u8],
-) -> Machine {
+) -> io::Result<Machine> {
     let x = number(src, at);
     let l = read_list(src, x.at);
     let lent = m.lent;
@@ -156,12 +161,13 @@ fn list_turn(
         &two[..b],
         &mut pool[..c],
     );
-    line(op, r, no_tail(), lent, one, two, pool);
-    with_queue(m, r.queue, l.at)
+    line(to, op, r, no_tail(), lent, one, two, pool)?;
+    Ok(with_queue(m, r.queue, l.at))
 }
 
 // Operations 6 to 12: a number, and the call.
-fn plain_turn(
+fn plain_turn<W: Write>(
+    to: &mut W,
     op: u64,
     src: &[u8],
     at: usize,
@@ -169,7 +175,7 @@ fn plain_turn(
     one: &mut [u8],
     two: &[u8],
     pool: &mut [u8],
-) -> Machine {
+) -> io::Result<Machine> {
     let x = number(src, at);
     let lent = m.lent;
     let a = capped(lent.one as u64, one.len());
@@ -183,8 +189,8 @@ fn plain_turn(
         &two[..b],
         &mut pool[..c],
     );
-    line(op, r, no_tail(), lent, one, two, pool);
-    with_queue(m, r.queue, x.at)
+    line(to, op, r, no_tail(), lent, one, two, pool)?;
+    Ok(with_queue(m, r.queue, x.at))
 }
 
 // The same, with the script at another place.
@@ -252,48 +258,52 @@ fn lent_turn(src: &[u8], at: usize, m: Machine) -> Machine {
 }
 
 // One operation of the script; any other number is passed over.
-fn turn(
+fn turn<W: Write>(
+    to: &mut W,
     src: &[u8],
     m: Machine,
     one: &mut [u8; 65536],
     two: &mut [u8; 65536],
     pool: &mut [u8; 65536],
     store: &mut [u8; 65536],
-) -> Machine {
+) -> io::Result<Machine> {
     let t = number(src, m.at);
     let op = t.value;
-    match op {
-        1 | 25 => anew(op, src, t.at, one, two, pool),
-        2..=5 => list_turn(op, src, t.at, m, one, two, pool),
-        6..=12 => plain_turn(op, src, t.at, m, one, two, pool),
+    let next = match op {
+        1 | 25 => anew(to, op, src, t.at, one, two, pool)?,
+        2..=5 => list_turn(to, op, src, t.at, m, one, two, pool)?,
+        6..=12 => plain_turn(to, op, src, t.at, m, one, two, pool)?,
         13 => moved(m, poke_turn(src, t.at, one, two, pool, store)),
         14..=16 => forge_turn(op, src, t.at, m),
         17 => lent_turn(src, t.at, m),
-        18 => own_new_turn(src, t.at, m, one, two, pool, store),
-        19..=23 => own_turn(op, src, t.at, m, one, two, pool, store),
+        18 => own_new_turn(to, src, t.at, m, one, two, pool, store)?,
+        19..=23 => own_turn(to, op, src, t.at, m, one, two, pool, store)?,
         24 => own_forge_turn(src, t.at, m),
         _ => moved(m, t.at),
-    }
+    };
+    Ok(next)
 }
 
 // The whole script, which starts with an operation 1 or 25: at most as many operations as it has bytes.
-fn script(
+fn script<W: Write>(
+    to: &mut W,
     src: &[u8],
     one: &mut [u8; 65536],
     two: &mut [u8; 65536],
     pool: &mut [u8; 65536],
     store: &mut [u8; 65536],
-) {
+) -> io::Result<()> {
     let first = number(src, 0);
-    let mut m = anew(first.value, src, first.at, one, two, pool);
+    let mut m = anew(to, first.value, src, first.at, one, two, pool)?;
     let mut left = src.len();
     while 0 < left {
         if src.len() <= m.at {
             break;
         }
-        m = turn(src, m, one, two, pool, store);
+        m = turn(to, src, m, one, two, pool, store)?;
         left -= 1;
     }
+    Ok(())
 }
 
 // Room for the script, 1 MiB. The `ensures` is what lending it as a slice needs.
@@ -304,12 +314,20 @@ fn script_room() -> [u8; 1048576]
 }
 
 // No queue needs more than one of these large buffers has: 65,536 bytes, for the pool of 64; region one needs 8,192 at most, in the legacy layout.
-fn main() {
+// A read that fails counts as the end of the script.
+fn main(rt: HostRuntime) -> io::Result<()> {
     let mut src = script_room();
-    let mut one = io::large_buffer();
-    let mut two = io::large_buffer();
-    let mut pool = io::large_buffer();
-    let mut store = io::large_buffer();
-    let got = io::read_full(0, &mut src);
-    script(&src[..got], &mut one, &mut two, &mut pool, &mut store);
+    let mut one = console::large_buffer();
+    let mut two = console::large_buffer();
+    let mut pool = console::large_buffer();
+    let mut store = console::large_buffer();
+    let (got, _) = console::read_full(&mut rt.stdin(), &mut src);
+    script(
+        &mut rt.stdout(),
+        &src[..got],
+        &mut one,
+        &mut two,
+        &mut pool,
+        &mut store,
+    )
 }

@@ -6,6 +6,8 @@ use crate::{Machine, fill, read_lent};
 use owning::Owning;
 use record::{Answer, Ask, Made, Queue};
 use rules::Held;
+use std::io;
+use std::io::Write;
 
 // What new is asked, and where the script goes on.
 #[derive(Clone, Copy)]
@@ -70,36 +72,45 @@ fn addresses(op: u64, made: Made) -> Tail {
 }
 
 // Every lent byte 165, and then a fresh queue, of which nothing is owned.
-pub fn anew(
+pub fn anew<W: Write>(
+    to: &mut W,
     op: u64,
     src: &[u8],
     at: usize,
     one: &mut [u8; 65536],
     two: &mut [u8; 65536],
     pool: &mut [u8; 65536],
-) -> Machine {
+) -> io::Result<Machine> {
     let a = read_ask(op, src, at);
     let t = read_lent(src, a.at, 0);
     let lent = t.lent;
     fill(one, lent.one, 165);
     fill(two, lent.two, 165);
     fill(pool, lent.pool, 165);
-    let queue = make(op, a.ask, lent, one, two, pool);
+    let queue = make(to, op, a.ask, lent, one, two, pool)?;
     let owning = Owning {
         queue,
         base: 0,
         size: 0,
         held: Held::Nothing,
     };
-    Machine {
+    Ok(Machine {
         owning,
         at: t.at,
         lent,
-    }
+    })
 }
 
 // A fresh queue over memory of the lengths told.
-fn make(op: u64, ask: Ask, lent: Lent, one: &mut [u8], two: &mut [u8], pool: &[u8]) -> Queue {
+fn make<W: Write>(
+    to: &mut W,
+    op: u64,
+    ask: Ask,
+    lent: Lent,
+    one: &mut [u8],
+    two: &mut [u8],
+    pool: &[u8],
+) -> io::Result<Queue> {
     let a = capped(lent.one as u64, one.len());
     let b = capped(lent.two as u64, two.len());
     let c = capped(lent.pool as u64, pool.len());
@@ -111,6 +122,6 @@ fn make(op: u64, ask: Ask, lent: Lent, one: &mut [u8], two: &mut [u8], pool: &[u
         steps: 0,
         queue,
     };
-    line(op, r, addresses(op, made), lent, one, two, pool);
-    queue
+    line(to, op, r, addresses(op, made), lent, one, two, pool)?;
+    Ok(queue)
 }

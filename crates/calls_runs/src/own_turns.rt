@@ -5,6 +5,8 @@ use crate::{Machine, fill};
 use owning::{Owned, Owning, Shows};
 use record::{Answer, Queue};
 use rules::Held;
+use std::io;
+use std::io::Write;
 
 // A call's answer, the sum of the bytes that it shows, the record after all that its operation does, and whether the device is to be notified.
 #[derive(Clone, Copy)]
@@ -79,7 +81,15 @@ fn tail(op: u64, d: Done) -> Tail {
     }
 }
 
-fn own_line(op: u64, d: Done, lent: Lent, one: &[u8], two: &[u8], pool: &[u8]) {
+fn own_line<W: Write>(
+    to: &mut W,
+    op: u64,
+    d: Done,
+    lent: Lent,
+    one: &[u8],
+    two: &[u8],
+    pool: &[u8],
+) -> io::Result<()> {
     let owned = d.owned;
     let owning = d.owning;
     let queue = owning.queue;
@@ -89,7 +99,7 @@ fn own_line(op: u64, d: Done, lent: Lent, one: &[u8], two: &[u8], pool: &[u8]) {
         steps: 0,
         queue,
     };
-    line(op, r, tail(op, d), lent, one, two, pool);
+    line(to, op, r, tail(op, d), lent, one, two, pool)
 }
 
 // ---- the calls
@@ -179,7 +189,8 @@ fn with_store(lent: Lent, store: usize) -> Lent {
 }
 
 // Operation 18: a store of bytes 165, and an owning queue over it and the queue at hand.
-pub fn own_new_turn(
+pub fn own_new_turn<W: Write>(
+    to: &mut W,
     src: &[u8],
     at: usize,
     m: Machine,
@@ -187,7 +198,7 @@ pub fn own_new_turn(
     two: &[u8],
     pool: &mut [u8],
     store: &mut [u8; 65536],
-) -> Machine {
+) -> io::Result<Machine> {
     let base = number(src, at);
     let size = number(src, base.at);
     let have = number(src, size.at);
@@ -196,16 +207,17 @@ pub fn own_new_turn(
     let lent = with_store(m.lent, count);
     let queue = m.owning.queue;
     let bytes = (size.value % 4294967296) as u32;
-    let owning = own_make(queue, base.value, bytes, lent, one, two, pool, store);
-    Machine {
+    let owning = own_make(to, queue, base.value, bytes, lent, one, two, pool, store)?;
+    Ok(Machine {
         owning,
         at: have.at,
         lent,
-    }
+    })
 }
 
 // An owning queue over memory and a store of the lengths told.
-fn own_make(
+fn own_make<W: Write>(
+    to: &mut W,
     queue: Queue,
     base: u64,
     size: u32,
@@ -214,7 +226,7 @@ fn own_make(
     two: &[u8],
     pool: &mut [u8],
     store: &mut [u8],
-) -> Owning {
+) -> io::Result<Owning> {
     let a = capped(lent.one as u64, one.len());
     let b = capped(lent.two as u64, two.len());
     let c = capped(lent.pool as u64, pool.len());
@@ -228,12 +240,13 @@ fn own_make(
         &mut pool[..c],
         &mut store[..d],
     );
-    own_line(18, alone(r, 0), lent, one, two, pool);
-    r.owning
+    own_line(to, 18, alone(r, 0), lent, one, two, pool)?;
+    Ok(r.owning)
 }
 
 // Operations 19 to 23: a number, and the call.
-pub fn own_turn(
+pub fn own_turn<W: Write>(
+    to: &mut W,
     op: u64,
     src: &[u8],
     at: usize,
@@ -242,7 +255,7 @@ pub fn own_turn(
     two: &[u8],
     pool: &mut [u8],
     store: &[u8],
-) -> Machine {
+) -> io::Result<Machine> {
     let x = number(src, at);
     let lent = m.lent;
     let a = capped(lent.one as u64, one.len());
@@ -258,13 +271,13 @@ pub fn own_turn(
         &mut pool[..c],
         &store[..d],
     );
-    own_line(op, done, lent, one, two, pool);
+    own_line(to, op, done, lent, one, two, pool)?;
     let owning = done.owning;
-    Machine {
+    Ok(Machine {
         owning,
         at: x.at,
         lent,
-    }
+    })
 }
 
 // What is held, by its token plus one, and its length.

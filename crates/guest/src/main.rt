@@ -1,5 +1,7 @@
 // A guest that reads a block: it takes a queue into use, sends a request of three buffers, and has it back when the device is done. The device is a
 // few stores of this program. It prints what each call answered.
+#![tactic(auto)]
+
 ghost use Rattle.std.specs.Prelude.{◌≡◌};
 ghost use Rattle.rules.specs.Calls.{open_add, open_pop, add as add_is, pop_used};
 ghost use Rattle.access.specs.Accesses.{memory};
@@ -9,6 +11,8 @@ ghost use Rattle.record.specs.Asked.{answer_of};
 use buffers::Outstanding;
 use record::{Answer, Ask, Made, Queue};
 use rules::Modes;
+use std::io;
+use std::io::Write;
 use virtio::Buffer;
 
 // A read of one block: what is asked, where the block goes, and where the device says how it went.
@@ -84,47 +88,60 @@ fn open_pop_many(
 
 // ---- what a guest does with them
 
-fn word(text: &[u8], value: u64) {
-    io::write_all(1, text);
-    io::print_decimal(1, value);
+fn word<W: Write>(to: &mut W, text: &[u8], value: u64) -> io::Result<()> {
+    to.write_all(text)?;
+    console::print_decimal(to, value)
 }
 
 // What a call answered, and how many descriptors are then free, unless a call is open.
-fn report(name: &[u8], r: Answer) {
-    io::write_all(1, name);
-    word(b" answer=", r.answer as u64);
-    word(b" value=", r.value as u64);
-    word(b" steps=", r.steps as u64);
+fn report<W: Write>(to: &mut W, name: &[u8], r: Answer) -> io::Result<()> {
+    to.write_all(name)?;
+    word(to, b" answer=", r.answer as u64)?;
+    word(to, b" value=", r.value as u64)?;
+    word(to, b" steps=", r.steps as u64)?;
     let queue = r.queue;
     let free = queue.available_desc();
     if free.answer == 0 {
-        word(b" free=", free.value as u64);
+        word(to, b" free=", free.value as u64)?;
     }
-    io::write_all(1, b"\n");
+    to.write_all(b"\n")
 }
 
 // Tells the device of a list that was added, if it wants to be told.
-fn notify<'a>(sent: Answer, one: &'a [u8], two: &'a [u8], pool: &[u8]) {
+fn notify<'a, W: Write>(
+    to: &mut W,
+    sent: Answer,
+    one: &'a [u8],
+    two: &'a [u8],
+    pool: &[u8],
+) -> io::Result<()> {
     if sent.answer != 0 {
-        return;
+        return Ok(());
     }
     let queue = sent.queue;
     let asked = queue.should_notify(one, two, pool);
-    report(b"should_notify", asked);
+    report(to, b"should_notify", asked)?;
     if asked.value == 1 {
-        io::write_all(1, b"the device is notified\n");
+        to.write_all(b"the device is notified\n")?;
     }
+    Ok(())
 }
 
 // Whether a list was added and the device has given one back.
-fn ready<'a>(sent: Answer, one: &'a [u8], two: &'a [u8], pool: &[u8]) -> bool {
+fn ready<'a, W: Write>(
+    to: &mut W,
+    sent: Answer,
+    one: &'a [u8],
+    two: &'a [u8],
+    pool: &[u8],
+) -> io::Result<bool> {
     if sent.answer != 0 {
-        return false;
+        return Ok(false);
     }
     let queue = sent.queue;
     let asked = queue.can_pop(one, two, pool);
-    report(b"can_pop", asked);
-    asked.value == 1
+    report(to, b"can_pop", asked)?;
+    Ok(asked.value == 1)
 }
 
 // The device fills block and status: element 0 of the used ring gets the chain's head and 513 bytes, and then used idx is 1.
@@ -155,12 +172,12 @@ fn question() -> Ask {
 }
 
 // The addresses that the transport is told.
-fn told(made: Made) {
-    word(b"new answer=", made.answer as u64);
-    word(b" table=", made.table);
-    word(b" avail=", made.avail);
-    word(b" used=", made.used);
-    io::write_all(1, b"\n");
+fn told<W: Write>(to: &mut W, made: Made) -> io::Result<()> {
+    word(to, b"new answer=", made.answer as u64)?;
+    word(to, b" table=", made.table)?;
+    word(to, b" avail=", made.avail)?;
+    word(to, b" used=", made.used)?;
+    to.write_all(b"\n")
 }
 
 fn buffer(addr: u64, len: u32, output: bool) -> Buffer {
@@ -183,46 +200,55 @@ fn listed(request: Request) -> [Buffer; 3] {
 }
 
 // Sends the request over a queue that was just made; a refused new is handed on.
-fn submit(made: Made, request: Request, one: &mut [u8], two: &[u8], pool: &mut [u8]) -> Answer {
+fn submit<W: Write>(
+    to: &mut W,
+    made: Made,
+    request: Request,
+    one: &mut [u8],
+    two: &[u8],
+    pool: &mut [u8],
+) -> io::Result<Answer> {
     let queue = made.queue;
     if made.answer != 0 {
-        return Answer {
+        return Ok(Answer {
             answer: made.answer,
             value: 0,
             steps: 0,
             queue,
-        };
+        });
     }
     let sent = add_request(queue, listed(request), one, two, pool);
-    report(b"add", sent);
-    sent
+    report(to, b"add", sent)?;
+    Ok(sent)
 }
 
 // A pop by another list is refused once the device's element is read, and closes.
-fn mistake(
+fn mistake<W: Write>(
+    to: &mut W,
     queue: Queue,
     token: u32,
     block: Buffer,
     one: &mut [u8],
     two: &[u8],
     pool: &mut [u8],
-) -> Queue {
+) -> io::Result<Queue> {
     let opened = open_pop_many(Outstanding { queue, token }, [block; 66], one, two, pool);
-    report(b"pop of 66 buffers, opened", opened);
+    report(to, b"pop of 66 buffers, opened", opened)?;
     let queue = opened.queue;
     let closed = queue.run(10, one, two, pool);
-    report(b"pop of 66 buffers, run", closed);
-    closed.queue
+    report(to, b"pop of 66 buffers, run", closed)?;
+    Ok(closed.queue)
 }
 
-fn take(
+fn take<W: Write>(
+    to: &mut W,
     queue: Queue,
     token: u32,
     request: Request,
     one: &mut [u8],
     two: &[u8],
     pool: &mut [u8],
-) -> Queue {
+) -> io::Result<Queue> {
     let done = pop_request(
         Outstanding { queue, token },
         listed(request),
@@ -230,64 +256,101 @@ fn take(
         two,
         pool,
     );
-    report(b"pop", done);
-    done.queue
+    report(to, b"pop", done)?;
+    Ok(done.queue)
 }
 
 // Opens an add of the request, and makes its first five loads and stores.
-fn begun(queue: Queue, request: Request, one: &mut [u8], two: &[u8], pool: &mut [u8]) -> Queue {
+fn begun<W: Write>(
+    to: &mut W,
+    queue: Queue,
+    request: Request,
+    one: &mut [u8],
+    two: &[u8],
+    pool: &mut [u8],
+) -> io::Result<Queue> {
     let opened = open_add_request(queue, listed(request), one, two, pool);
-    report(b"add, opened", opened);
+    report(to, b"add, opened", opened)?;
     let queue = opened.queue;
     let part = queue.run(5, one, two, pool);
-    report(b"add, five steps", part);
-    part.queue
+    report(to, b"add, five steps", part)?;
+    Ok(part.queue)
 }
 
 // Adds the request again in two parts: between them a guest may place what it needs, as a barrier.
-fn stepped(queue: Queue, request: Request, one: &mut [u8], two: &[u8], pool: &mut [u8]) -> Queue {
-    let queue = begun(queue, request, one, two, pool);
+fn stepped<W: Write>(
+    to: &mut W,
+    queue: Queue,
+    request: Request,
+    one: &mut [u8],
+    two: &[u8],
+    pool: &mut [u8],
+) -> io::Result<Queue> {
+    let queue = begun(to, queue, request, one, two, pool)?;
     let done = queue.run(10, one, two, pool);
-    report(b"add, run", done);
-    done.queue
+    report(to, b"add, run", done)?;
+    Ok(done.queue)
 }
 
 // Lists that no queue takes, for their number; and one of them for its order too, which is tried before.
-fn too_many(queue: Queue, request: Request, one: &mut [u8], two: &[u8], pool: &mut [u8]) {
+fn too_many<W: Write>(
+    to: &mut W,
+    queue: Queue,
+    request: Request,
+    one: &mut [u8],
+    two: &[u8],
+    pool: &mut [u8],
+) -> io::Result<()> {
     let header = request.header;
     let block = request.block;
     let mut list = [block; 66];
     let opened = open_add_many(queue, list, one, two, pool);
-    report(b"add of 66 buffers, opened", opened);
+    report(to, b"add of 66 buffers, opened", opened)?;
     list[65] = header;
     let opened = open_add_many(queue, list, one, two, pool);
-    report(b"add of 66 buffers, an input last, opened", opened);
+    report(to, b"add of 66 buffers, an input last, opened", opened)
 }
 
-fn afterwards(queue: Queue, request: Request, one: &mut [u8], two: &[u8], pool: &mut [u8]) {
-    let queue = stepped(queue, request, one, two, pool);
-    too_many(queue, request, one, two, pool);
+fn afterwards<W: Write>(
+    to: &mut W,
+    queue: Queue,
+    request: Request,
+    one: &mut [u8],
+    two: &[u8],
+    pool: &mut [u8],
+) -> io::Result<()> {
+    let queue = stepped(to, queue, request, one, two, pool)?;
+    too_many(to, queue, request, one, two, pool)
 }
 
 // Has the request back, with a list that no queue takes tried before, and what else a guest may do after.
-fn finish(sent: Answer, request: Request, one: &mut [u8], two: &[u8], pool: &mut [u8]) {
+fn finish<W: Write>(
+    to: &mut W,
+    sent: Answer,
+    request: Request,
+    one: &mut [u8],
+    two: &[u8],
+    pool: &mut [u8],
+) -> io::Result<()> {
     let block = request.block;
-    let queue = mistake(sent.queue, sent.value, block, one, two, pool);
-    let queue = take(queue, sent.value, request, one, two, pool);
-    afterwards(queue, request, one, two, pool);
+    let queue = mistake(to, sent.queue, sent.value, block, one, two, pool)?;
+    let queue = take(to, queue, sent.value, request, one, two, pool)?;
+    afterwards(to, queue, request, one, two, pool)
 }
 
-fn main() {
+fn main(rt: HostRuntime) -> io::Result<()> {
+    let mut out = rt.stdout();
     let mut one = [0u8; 78];
     let mut two = [0u8; 38];
     let mut pool = [0u8; 1];
     let made = Queue::new(question(), &mut one, &mut two, &pool);
-    told(made);
+    told(&mut out, made)?;
     let request = read_block();
-    let sent = submit(made, request, &mut one, &two, &mut pool);
-    notify(sent, &one, &two, &pool);
+    let sent = submit(&mut out, made, request, &mut one, &two, &mut pool)?;
+    notify(&mut out, sent, &one, &two, &pool)?;
     let two = complete(two, one[68]);
-    if ready(sent, &one, &two, &pool) {
-        finish(sent, request, &mut one, &two, &mut pool);
+    if ready(&mut out, sent, &one, &two, &pool)? {
+        finish(&mut out, sent, request, &mut one, &two, &mut pool)?;
     }
+    Ok(())
 }

@@ -1,11 +1,14 @@
 // Reads a replay from standard input, and writes what it prints to standard output.
+#![tactic(auto)]
+
 ghost use Rattle.std.specs.Prelude.{◌≡◌, ◌≤◌, length, take};
-ghost use Rattle.io.specs.Counts.{IsPrefixLen};
+ghost use Rattle.console.specs.Counts.{IsPrefixLen};
 ghost use Rattle.replay.specs.Replay.{transcript};
 ghost use Rattle.replay.specs.Length.{longest};
 
-use libc::{STDERR_FILENO, STDIN_FILENO, STDOUT_FILENO};
 use replay::replay;
+use std::io;
+use std::io::Write;
 
 // No replay prints more.
 const LONGEST: usize = 131072;
@@ -25,19 +28,27 @@ fn whole(src: &[u8], out: &mut [u8]) -> usize
     replay(src, out)
 }
 
-// A program has no exit code of its own to give, so that a write which fails is told on standard error.
-fn answer(src: &[u8], out: &mut [u8])
+// A write that fails is told in words too, besides the error that ends the program.
+fn answer<W: Write, E: Write>(
+    to: &mut W,
+    errors: &mut E,
+    src: &[u8],
+    out: &mut [u8],
+) -> io::Result<()>
     requires { longest ≤ length out.old }
 {
     let said = whole(src, out);
-    if !io::write_all(STDOUT_FILENO, &out[..said]) {
-        io::write_all(STDERR_FILENO, b"replay: the output could not be written\n");
+    let written = to.write_all(&out[..said]);
+    if written.is_err() {
+        let _ = errors.write_all(b"replay: the output could not be written\n");
     }
+    written
 }
 
-fn main() {
-    let mut src = io::large_buffer();
+// A read that fails counts as the end of the text.
+fn main(rt: HostRuntime) -> io::Result<()> {
+    let mut src = console::large_buffer();
     let mut out = room();
-    let got = io::read_full(STDIN_FILENO, &mut src);
-    answer(&src[..got], &mut out);
+    let (got, _) = console::read_full(&mut rt.stdin(), &mut src);
+    answer(&mut rt.stdout(), &mut rt.stderr(), &src[..got], &mut out)
 }

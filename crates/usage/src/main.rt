@@ -1,5 +1,7 @@
 // The README's section "Use" as a program: a queue is taken into use, a list of three buffers added, and popped if the device has given it back. There is no
 // device here, so that the pop answers 3, NotReady.
+#![tactic(auto)]
+
 ghost use Rattle.std.specs.Prelude.{◌≡◌};
 ghost use Rattle.rules.specs.Calls.{add as add_is, pop_used};
 ghost use Rattle.access.specs.Accesses.{memory};
@@ -9,6 +11,8 @@ ghost use Rattle.record.specs.Asked.{answer_of};
 use buffers::Outstanding;
 use record::{Answer, Ask, Queue};
 use rules::Modes;
+use std::io;
+use std::io::Write;
 use virtio::Buffer;
 
 // By the law of lenders, as pop_request.
@@ -57,16 +61,17 @@ fn receive(sent: Answer, list: [Buffer; 3], one: &mut [u8], two: &[u8], pool: &m
     )
 }
 
-fn report(name: &[u8], r: Answer) {
-    io::write_all(1, name);
-    io::write_all(1, b" answer=");
-    io::print_decimal(1, r.answer as u64);
-    io::write_all(1, b" value=");
-    io::print_decimal(1, r.value as u64);
-    io::write_all(1, b"\n");
+fn report<W: Write>(to: &mut W, name: &[u8], r: Answer) -> io::Result<()> {
+    to.write_all(name)?;
+    to.write_all(b" answer=")?;
+    console::print_decimal(to, r.answer as u64)?;
+    to.write_all(b" value=")?;
+    console::print_decimal(to, r.value as u64)?;
+    to.write_all(b"\n")
 }
 
-fn main() {
+fn main(rt: HostRuntime) -> io::Result<()> {
+    let mut out = rt.stdout();
     let modes = Modes {
         indirect: false,
         event_idx: false,
@@ -86,7 +91,7 @@ fn main() {
     let mut pool = [0u8; 1];
     let made = Queue::new(ask, &mut one, &mut two, &pool);
     if made.answer != 0 {
-        return;
+        return Ok(());
     }
     let queue = made.queue;
     let list = [
@@ -107,13 +112,13 @@ fn main() {
         },
     ];
     let sent = add_request(queue, list, &mut one, &two, &mut pool);
-    report(b"add", sent);
+    report(&mut out, b"add", sent)?;
     if sent.answer != 0 {
-        return;
+        return Ok(());
     }
     if wants_notice(sent, &one, &two, &pool) {
-        io::write_all(1, b"the device is notified\n");
+        out.write_all(b"the device is notified\n")?;
     }
     let done = receive(sent, list, &mut one, &two, &mut pool);
-    report(b"pop", done);
+    report(&mut out, b"pop", done)
 }

@@ -1,0 +1,17 @@
+-- `buffers::add` meets its contract: it copies the list and calls `add_gathered`. Assumes nothing.
+use Rattle.std.proofs.Common.{◌∙◌}
+use Rattle.std.proofs.Math.Path.{ap}
+use Rattle.virtio.specs.Memory.{Memory}
+use Rattle.rules.specs.Record as model
+use Rattle.rules.specs.Calls.{add}
+use Rattle.access.specs.Accesses.{memory}
+use Rattle.record.specs.Abs.{abs}
+use Rattle.buffers.specs.declared.Gathered.{Gathered}
+use Rattle.buffers.specs.Gather.{stands_for, add_stands}
+use Rattle.buffers.proofs.add.Goals as goal
+
+pub returns : goal.returns
+returns c =
+    let q : model.Queue = abs c.args.queue in
+    let m : Memory = memory c.args.one.now c.args.two.now c.args.pool.now in
+    c.add_gathered.ensures ∙ (ap (λ (g : Gathered). add q m (stands_for g)) c.gather.ensures ∙ add_stands q m c.args.list.now)

@@ -1,0 +1,17 @@
+-- `buffers::open_pop` meets its contract: it copies the list and calls `open_pop_gathered`. Assumes nothing.
+use Rattle.std.proofs.Common.{◌∙◌}
+use Rattle.std.proofs.Math.Path.{ap}
+use Rattle.virtio.specs.Memory.{Memory}
+use Rattle.rules.specs.Record as model
+use Rattle.rules.specs.Calls.{open_pop}
+use Rattle.access.specs.Accesses.{memory}
+use Rattle.record.specs.Abs.{abs}
+use Rattle.buffers.specs.declared.Gathered.{Gathered}
+use Rattle.buffers.specs.Gather.{stands_for, open_pop_stands}
+use Rattle.buffers.proofs.open_pop.Goals as goal
+
+pub returns : goal.returns
+returns c =
+    let q : model.Queue = abs c.args.chain.queue in
+    let m : Memory = memory c.args.one.now c.args.two.now c.args.pool.now in
+    c.open_pop_gathered.ensures ∙ (ap (λ (g : Gathered). open_pop q m c.args.chain.token (stands_for g)) c.gather.ensures ∙ open_pop_stands q m c.args.list.now c.args.chain.token)
