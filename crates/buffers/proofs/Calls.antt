@@ -27,6 +27,7 @@ use Rattle.virtio.specs.declared.Buffer.{Buffer}
 use Rattle.buffers.specs.declared.Gathered.{Gathered}
 use Rattle.buffers.specs.Gather.{gathered}
 use Rattle.virtio.specs.contracts.Buffer as E
+use Rattle.virtio.proofs.Buffer.TheLaws as E'
 use Rattle.buffers.specs.contracts.Gathered as B
 use Rattle.buffers.specs.contracts.gather as gather
 use Rattle.buffers.proofs.gather.Symbol.{name as #gather}
@@ -45,7 +46,7 @@ module _ {M : Type 1} {𝓤 : Ura M} {𝓛 : Logic 𝓤} {K : Type 0} {Γ : List
   gathers t fm mem run known κ q s os k =
       let v : Val = slice_val s.ref_ptr (length s.now) in
       let Own : Fml = (ShrSlice (named 0) κ E.the_row).own_val s (v ∷ []) in
-      move t (1 ∷ []) $ use1 𝓛 (‵ Own ⊛ ‵ Own) ((shr_slice_copy 𝓛 (named 0) κ E.the_row).twice s (v ∷ [])) $ split t $ move t (2 ∷ 0 ∷ []) $
+      move t (1 ∷ []) $ use1 𝓛 (‵ Own ⊛ ‵ Own) ((shr_slice_copy 𝓛 (named 0) κ E.the_row E'.the_row_laws.shr_laws).twice s (v ∷ [])) $ split t $ move t (2 ∷ 0 ∷ []) $
       use2 𝓛 (raw ((Of 𝓛 gather.ended (gather.clauses 𝓛 mem run)).pre (((κ, tt), (q, tt), tt, (s, tt), (v ∷ [], tt)), tt)))
       (qed 𝓛 (‵ (flft κ q) ∷ ‵ Own ∷ []) ∵ nothing ! $ move ! (2 ∷ 0 ∷ []) $ fjoin ! $ nothing ! $ move ! (2 ∷ 0 ∷ []) $ join ! $ join ! $ frame ! $ done !) $
       calls_told t fm gather.ended (gather.clauses 𝓛 mem run) known (((κ, tt), (q, tt), tt, (s, tt), (v ∷ [], tt)), tt) os (λ u r ws.

@@ -12,7 +12,7 @@ use Prim.Native.Nat.{ℕ}
 use mathlib.Core.List.{List, [], ◌∷◌}
 use lib.ListN.{length}
 use seplogic.Ra.Ura.{Ura}
-use mir.Syntax.{Name, Ty, Fn, named, erased, imm, mut, w8, ty_int, ty_ref, deref, field, place, copy, local, value_local, seq, assign, call, return, addr_of, aggregate}
+use mir.Syntax.{Callee, Ty, Fn, named, erased, imm, mut, w8, ty_int, ty_ref, deref, field, place, copy, local, value_local, seq, assign, call, return, addr_of, aggregate}
 use mir.Val.{Val}
 use base.Logic.{SProp, ent, emp, via, fst∗, id⊢}
 use base.Fml.{Lft, Share}
@@ -30,9 +30,9 @@ use denote.Laws.{Is, shows}
 use denote.Memory.{pointee}
 use denote.Builtin.{u8, SliceRefOf, SliceRefMutOf}
 use denote.Exit.{yes, Last}
-use denote.Ref.{Bor}
+use denote.Ref.{Bor, MutBor}
 use denote.Signature.{plain, shr_slice_of}
-use denote.Slice.{slice_ty, finally, shr_slice_vals, shr_slice_Tells, shr_slice_Lawful, mut_slice_Tells, mut_slice_Lawful}
+use denote.Slice.{slice_ty, shr_slice_vals, shr_slice_Tells, shr_slice_Lawful, mut_slice_vals, mut_slice_Tells, mut_slice_Lawful}
 use denote.Steps.{owned, peeks, heard}
 use denote.Struct.Laws as LL
 use denote.Triple.Statement.{Triple}
@@ -55,7 +55,7 @@ use Rattle.record.proofs.Answer.TheLaws as R'
 use Rattle.buffers.specs.contracts.Gathered as B
 use Rattle.buffers.proofs.Gathered.TheLaws as B'
 use Rattle.buffers.proofs.Calls.{gathers}
-use Rattle.buffers.proofs.Parts.{slice_val, Listing, Reading, Writing, own_read, own_write, answer_typed, only_lasts}
+use Rattle.buffers.proofs.Parts.{shr_val, mut_val, Listing, Reading, Writing, own_read, own_write, gave_write, answer_typed, only_lasts}
 use Rattle.buffers.specs.contracts.gather as gather
 use Rattle.buffers.proofs.gather.Symbol.{name as #gather}
 
@@ -86,7 +86,7 @@ module _ (S : Plain) (rule : S.row.Denot → Memory → List Buffer → Outcome)
 
   -- the outcome is the rule's, over what regions one, two and the pool hold at entry, and one and the pool at exit
   abbrev pub Says : S.row.Denot → List Buffer → List ℕ → List ℕ → List ℕ → Answer → List ℕ → List ℕ → Type 0
-  Says s list one two pool r one-after pool-after = answer_of r (memory one-after two pool-after) ≡ rule s (memory one two pool) list
+  Says s list one two pool r one_after pool_after = answer_of r (memory one_after two pool_after) ≡ rule s (memory one two pool) list
 
   abbrev pub clauses : {M : Type 1} (𝓤 : Ura M) → Clauses 𝓤 ended
   clauses 𝓤 κs a = record {
@@ -107,10 +107,12 @@ module _ (S : Plain) (rule : S.row.Denot → Memory → List Buffer → Outcome)
   abbrev bytes : Ty
   bytes = ty_int w8
 
-  abbrev pub function : Name → Fn
+  abbrev pub function : Callee → Fn
   function core = record {
     lifetimes = 4;
     outlives = [];
+    ty_params = [];
+    givens = 0;
     params = 5;
     locals = local R'.mir value_local ∷ local S.ty value_local ∷ local (slice_ty (ty_ref (named 0) imm (pointee (E.the_row).written))) value_local ∷ local (slice_ty (ty_ref (named 1) mut bytes)) value_local ∷ local (slice_ty (ty_ref (named 2) imm bytes)) value_local ∷ local (slice_ty (ty_ref (named 3) mut bytes)) value_local
         ∷ local B'.mir value_local ∷ local (ty_ref erased mut bytes) value_local ∷ local (slice_ty (ty_ref erased mut bytes)) value_local ∷ local (ty_ref erased mut bytes) value_local ∷ local (slice_ty (ty_ref erased mut bytes)) value_local ∷ [];
@@ -126,16 +128,16 @@ module _ (S : Plain) (rule : S.row.Denot → Memory → List Buffer → Outcome)
   abbrev stayed : Stays ended.signature.params ended.kept
   stayed = (stay_dropped (plain (λ _. S.row)) yes, (stay_dropped (shr_slice_of (0 ∷ []) tt (plain (λ _. E.the_row))) yes, (gave_slice (1 ∷ []) tt (plain (λ _. u8)), (stay_dropped (shr_slice_of (2 ∷ []) tt (plain (λ _. u8))) yes, (gave_slice (3 ∷ []) tt (plain (λ _. u8)), tt)))))
 
-  module _ {M : Type 1} {𝓤 : Ura M} (𝓛 : Logic 𝓤) (mem : program.Memory → SProp 𝓤) (run : Routine → Fun 𝓤) (#core : Name) (stands : (s : S.row.Denot) (m : Memory) (xs : List Buffer) → rule s m (stands_for (gathered xs)) ≡ rule s m xs) where
+  module _ {M : Type 1} {𝓤 : Ura M} (𝓛 : Logic 𝓤) (mem : program.Memory → SProp 𝓤) (run : Routine → Fun 𝓤) (#core : Callee) (stands : (s : S.row.Denot) (m : Memory) (xs : List Buffer) → rule s m (stands_for (gathered xs)) ≡ rule s m xs) where
     open 𝓛 use {H}
 
-    module _ (κlist κone κtwo κpool : Lft) (qlist qone qtwo qpool : Share) (s : S.row.Denot) (list : Bor (List Buffer)) (one two pool : Bor (List ℕ)) where
+    module _ (κlist κone κtwo κpool : Lft) (qlist qone qtwo qpool : Share) (s : S.row.Denot) (list : Bor (List Buffer)) (one : MutBor (List ℕ)) (two : Bor (List ℕ)) (pool : MutBor (List ℕ)) where
       -- the arguments, and their machine values
-      abbrev a : S.row.Denot × (Bor (List Buffer) × (Bor (List ℕ) × (Bor (List ℕ) × (Bor (List ℕ) × Unit {0}))))
+      abbrev a : S.row.Denot × (Bor (List Buffer) × (MutBor (List ℕ) × (Bor (List ℕ) × (MutBor (List ℕ) × Unit {0}))))
       a = (s, (list, (one, (two, (pool, tt)))))
 
       abbrev vals : List Val × (List Val × (List Val × (List Val × (List Val × Unit {0}))))
-      vals = (S.val s ∷ [], (slice_val list ∷ [], (slice_val one ∷ [], (slice_val two ∷ [], (slice_val pool ∷ [], tt)))))
+      vals = (S.val s ∷ [], (shr_val list ∷ [], (mut_val one ∷ [], (shr_val two ∷ [], (mut_val pool ∷ [], tt)))))
 
       -- the lifetimes and shares of the regions, and with that of the list
       abbrev lent : List (Lft × Share)
@@ -149,44 +151,44 @@ module _ (S : Plain) (rule : S.row.Denot → Memory → List Buffer → Outcome)
       asked = token_each 𝓤 lent (‵ (own_write 1 κone one) ∷ ‵ (own_read 2 κtwo two) ∷ ‵ (own_write 3 κpool pool) ∷ [])
 
       abbrev left : Answer → Val → List ℕ → List ℕ → List (Item 𝓤)
-      left r w one-after pool-after = token_each 𝓤 all_lent (‵ ((R.the_row).own_val r (w ∷ [])) ∷ ‵ (finally u8 one.name one-after) ∷ ‵ (finally u8 pool.name pool-after) ∷ [])
+      left r w one_after pool_after = token_each 𝓤 all_lent (‵ ((R.the_row).own_val r (w ∷ [])) ∷ ‵ (gave_write κone one one_after) ∷ ‵ (gave_write κpool pool pool_after) ∷ [])
 
       abbrev Post : Val → SProp 𝓤
       Post = (walk_of 𝓛 ended stayed (clauses 𝓤)).post (((κlist, (κone, (κtwo, (κpool, tt)))), (qlist, (qone, (qtwo, (qpool, tt)))), tt, a, vals), tt)
 
-      module _ (s-is : Is S.row s (S.val s ∷ [])) (list-is : Is (Listing κlist) list (slice_val list ∷ [])) (one-is : Is (Writing 1 κone) one (slice_val one ∷ [])) (two_is : Is (Reading 2 κtwo) two (slice_val two ∷ [])) (pool-is : Is (Writing 3 κpool) pool (slice_val pool ∷ [])) where
+      module _ (s_is : Is S.row s (S.val s ∷ [])) (list_is : Is (Listing κlist) list (shr_val list ∷ [])) (one_is : Is (Writing 1 κone) one (mut_val one ∷ [])) (two_is : Is (Reading 2 κtwo) two (shr_val two ∷ [])) (pool_is : Is (Writing 3 κpool) pool (mut_val pool ∷ [])) where
         -- the call of the core, on the copy at the machine value u
         abbrev to_core : Val → (Of 𝓛 core_ended (core_clauses 𝓤)).Ghost
-        to_core u = (((κone, (κtwo, (κpool, tt))), (qone, (qtwo, (qpool, tt))), tt, (s, (gathered list.now, (one, (two, (pool, tt))))), (S.val s ∷ [], (u ∷ [], (slice_val one ∷ [], (slice_val two ∷ [], (slice_val pool ∷ [], tt)))))), tt)
+        to_core u = (((κone, (κtwo, (κpool, tt))), (qone, (qtwo, (qpool, tt))), tt, (s, (gathered list.now, (one, (two, (pool, tt))))), (S.val s ∷ [], (u ∷ [], (mut_val one ∷ [], (shr_val two ∷ [], (mut_val pool ∷ [], tt)))))), tt)
 
         asks_core : (u : Val) → Is B.the_row (gathered list.now) (u ∷ []) → ent 𝓤 (⋆ 𝓛 asked) ((Of 𝓛 core_ended (core_clauses 𝓤)).pre (to_core u))
         asks_core u copied =
-            qed 𝓛 asked ∵ together ! lent $ move ! (1 ∷ 2 ∷ 3 ∷ []) $ packs ! $ owned ! B.the_row (Is B.the_row) (LL.makes B.the_type B'.the_plain 𝓛) (gathered list.now) _ copied $ fjoin ! $ owned ! S.row (Is S.row) (S.makes 𝓛) s _ s-is $ fjoin ! $ move ! (1 ∷ 0 ∷ []) $ join ! $ frame ! $ done !
+            qed 𝓛 asked ∵ together ! lent $ move ! (1 ∷ 2 ∷ 3 ∷ []) $ packs ! $ owned ! B.the_row (Is B.the_row) (LL.makes B.the_type B'.the_plain 𝓛) (gathered list.now) _ copied $ fjoin ! $ owned ! S.row (Is S.row) (S.makes 𝓛) s _ s_is $ fjoin ! $ move ! (1 ∷ 0 ∷ []) $ join ! $ frame ! $ done !
 
-        exits : (r : Answer) (w : Val) (one-after pool-after : List ℕ) (f : Last (S.row.exit yes) s) → Says s list.now one.now two.now pool.now r one-after pool-after → length one-after ≡ length one.now → length pool-after ≡ length pool.now
-            → ent 𝓤 (⋆ 𝓛 (left r w one-after pool-after)) (Post w)
-        exits r w one-after pool-after f e one_length pool_length =
-            qed 𝓛 (left r w one-after pool-after) ∵
-            suffices ! _ (ends_at 𝓛 ended stayed (clauses 𝓤) (((κlist, (κone, (κtwo, (κpool, tt)))), (qlist, (qone, (qtwo, (qpool, tt)))), tt, a, vals), tt) w r (f, (tt, (one-after, (tt, (pool-after, tt))))) (tt, (tt, (one_length, (tt, (pool_length, tt)))))) $ says ! e $
+        exits : (r : Answer) (w : Val) (one_after pool_after : List ℕ) (f : Last (S.row.exit yes) s) → Says s list.now one.now two.now pool.now r one_after pool_after → length one_after ≡ length one.now → length pool_after ≡ length pool.now
+            → ent 𝓤 (⋆ 𝓛 (left r w one_after pool_after)) (Post w)
+        exits r w one_after pool_after f e one_length pool_length =
+            qed 𝓛 (left r w one_after pool_after) ∵
+            suffices ! _ (ends_at 𝓛 ended stayed (clauses 𝓤) (((κlist, (κone, (κtwo, (κpool, tt)))), (qlist, (qone, (qtwo, (qpool, tt)))), tt, a, vals), tt) w r (f, (tt, (one_after, (tt, (pool_after, tt))))) (tt, (tt, (one_length, (tt, (pool_length, tt)))))) $ says ! e $
             together ! all_lent $ frame ! $ move ! (1 ∷ 2 ∷ []) $ only_lasts ! $ done !
 
         walk : (𝓣 : Tables 𝓤 H) → Triple 𝓤 (𝓣.C #gather) (Of 𝓛 gather.ended (gather.clauses 𝓛 mem run)) → Triple 𝓤 (𝓣.C #core) (Of 𝓛 core_ended (core_clauses 𝓤))
-            → ent 𝓤 (on_entry 𝓛 ended.signature (κlist, (κone, (κtwo, (κpool, tt)))) (qlist, (qone, (qtwo, (qpool, tt)))) a vals) (WpFn 𝓤 H 𝓣.C 𝓣.Λ (function #core) (S.val s ∷ slice_val list ∷ slice_val one ∷ slice_val two ∷ slice_val pool ∷ []) Post)
-        walk 𝓣 known-gather known-core =
-            qed 𝓛 (tokens 𝓤 all_lent ∷ ‵ (owns (S.row ∷ Listing κlist ∷ Writing 1 κone ∷ Reading 2 κtwo ∷ Writing 3 κpool ∷ []) a vals) ∷ []) ∵ enter ! 𝓣.C 𝓣.Λ (function #core) (S.val s ∷ slice_val list ∷ slice_val one ∷ slice_val two ∷ slice_val pool ∷ []) _ $
+            → ent 𝓤 (on_entry 𝓛 ended.signature (κlist, (κone, (κtwo, (κpool, tt)))) (qlist, (qone, (qtwo, (qpool, tt)))) a vals) (WpFn 𝓤 H 𝓣.C 𝓣.Λ (function #core) (S.val s ∷ shr_val list ∷ mut_val one ∷ shr_val two ∷ mut_val pool ∷ []) Post)
+        walk 𝓣 known_gather known_core =
+            qed 𝓛 (tokens 𝓤 all_lent ∷ ‵ (owns (S.row ∷ Listing κlist ∷ Writing 1 κone ∷ Reading 2 κtwo ∷ Writing 3 κpool ∷ []) a vals) ∷ []) ∵ enter ! 𝓣.C 𝓣.Λ (function #core) (S.val s ∷ shr_val list ∷ mut_val one ∷ shr_val two ∷ mut_val pool ∷ []) _ $
             alloc1 ! (λ l0. alloc1 ! (λ l1. alloc1 ! (λ l2. alloc1 ! (λ l3. alloc1 ! (λ l4. alloc1 ! (λ l5. alloc1 ! (λ l6. alloc1 ! (λ l7. alloc1 ! (λ l8. alloc1 ! (λ l9. alloc1 ! (λ l10. alloc0 ! $ params1 ! $
-            pass1 ! (init ! 18 refl (S.typed 𝓛 s _ s-is)) $ pass1 ! (init ! 16 refl ((shr_slice_Lawful 𝓛 (named 0) κlist E.the_row).typed list _ list-is).0) $ pass1 ! (init ! 14 refl ((mut_slice_Lawful 𝓛 (named 1) κone u8).typed one _ one-is).0) $
-            pass1 ! (init ! 12 refl ((shr_slice_Lawful 𝓛 (named 2) κtwo u8).typed two _ two_is).0) $ pass1 ! (init ! 10 refl ((mut_slice_Lawful 𝓛 (named 3) κpool u8).typed pool _ pool-is).0) $ pass0 ! $
+            pass1 ! (init ! 18 refl (S.typed 𝓛 s _ s_is)) $ pass1 ! (init ! 16 refl ((shr_slice_Lawful 𝓛 (named 0) κlist E.the_row).typed list _ list_is).0) $ pass1 ! (init ! 14 refl ((mut_slice_Lawful 𝓛 (named 1) κone u8).typed one _ one_is).0) $
+            pass1 ! (init ! 12 refl ((shr_slice_Lawful 𝓛 (named 2) κtwo u8).typed two _ two_is).0) $ pass1 ! (init ! 10 refl ((mut_slice_Lawful 𝓛 (named 3) κpool u8).typed pool _ pool_is).0) $ pass0 ! $
             -- [_10; …; _0; …; the tokens; what the parameters own]
             move ! (23 ∷ []) $ skips ! $ keeps ! $ keeps ! $ keeps ! $ keeps ! $ drop ! $ move ! (26 ∷ []) $ apart ! all_lent $
             -- [the list's token; the list; the tokens of pool, two, one; what they own; _10; …]
-            move ! (3 ∷ 7 ∷ []) $ gathers ! (fm_of 𝓤 H 𝓛.laws 𝓣) mem run known-gather κlist qlist list (and_then ! (cell ! 24 refl) (no_more !)) (λ u copied.
+            move ! (3 ∷ 7 ∷ []) $ gathers ! (fm_of 𝓤 H 𝓛.laws 𝓣) mem run known_gather κlist qlist list (and_then ! (cell ! 24 refl) (no_more !)) (λ u copied.
             land ! (from ! (stop !)) (init ! 16 refl ((LL.lawful B.the_type B'.the_laws 𝓛).typed (gathered list.now) _ copied).0) $
-            relends ! 22 14 12 refl (sub ! 0 refl (whole !)) refl (tt, tt) refl refl (sub ! 1 refl (whole !)) refl (tt, (tt, (record { fits = one-is.0.1.0 }, tt))) $
-            relends ! 18 10 8 refl (sub ! 0 refl (whole !)) refl (tt, tt) refl refl (sub ! 1 refl (whole !)) refl (tt, (tt, (record { fits = pool-is.0.1.0 }, tt))) $
+            relends ! 22 14 12 refl (sub ! 0 refl (whole !)) refl (tt, tt) refl refl (sub ! 1 refl (whole !)) refl (tt, (tt, (record { fits = one_is.0.1.0 }, tt))) $
+            relends ! 18 10 8 refl (sub ! 0 refl (whole !)) refl (tt, tt) refl refl (sub ! 1 refl (whole !)) refl (tt, (tt, (record { fits = pool_is.0.1.0 }, tt))) $
             move ! (2 ∷ 3 ∷ 4 ∷ 7 ∷ 6 ∷ 5 ∷ []) $ cut asked (raw ((Of 𝓛 core_ended (core_clauses 𝓤)).pre (to_core u)) ∷ []) _ (asks_core u copied) $
             -- [what the core asks; the list's token; the list; _10; …]
-            calls_told ! (fm_of 𝓤 H 𝓛.laws 𝓣) core_ended (core_clauses 𝓤) known-core (to_core u) (and_then ! (cell ! 21 refl) (and_then ! (cell ! 11 refl) (and_then ! (cell ! 7 refl) (and_then ! (cell ! 15 refl) (and_then ! (cell ! 3 refl) (no_more !)))))) (λ w r ws.
+            calls_told ! (fm_of 𝓤 H 𝓛.laws 𝓣) core_ended (core_clauses 𝓤) known_core (to_core u) (and_then ! (cell ! 21 refl) (and_then ! (cell ! 11 refl) (and_then ! (cell ! 7 refl) (and_then ! (cell ! 15 refl) (and_then ! (cell ! 3 refl) (no_more !)))))) (λ w r ws.
             heard ! (Says s (stands_for (gathered list.now)) one.now two.now pool.now r ws.1.1.0 ws.1.1.1.1.0) (λ e. skips ! $ skips ! $ last_is ! (λ one_length. skips ! $ last_is ! (λ pool_length. drop ! $
             -- [the last values of pool, one; the result; the core's tokens; the list's token; the list; _10; …]
             move ! (3 ∷ []) $ use1 𝓛 (tokens 𝓤 lent) (id⊢ 𝓤 _) $ apart ! lent $ move ! (5 ∷ []) $ peeks ! R.the_row (Is R.the_row) (shows 𝓛 R.the_row) r (w ∷ []) (λ is.
@@ -196,10 +198,10 @@ module _ (S : Plain) (rule : S.row.Denot → Memory → List Buffer → Outcome)
 
     pub entry_meets : (𝓣 : Tables 𝓤 H) → Triple 𝓤 (𝓣.C #gather) (Of 𝓛 gather.ended (gather.clauses 𝓛 mem run)) → Triple 𝓤 (𝓣.C #core) (Of 𝓛 core_ended (core_clauses 𝓤))
         → Meets 𝓛 ended.signature (WpFn 𝓤 H 𝓣.C 𝓣.Λ (function #core)) (closing 𝓛 ended (clauses 𝓤))
-    entry_meets 𝓣 known-gather known-core =
+    entry_meets 𝓣 known_gather known_core =
         closes 𝓛 ended stayed
         (Goes-dropped 𝓛 4 (plain (λ _. S.row)) yes (λ κs x f. S.silent x f), (Goes-dropped 𝓛 4 (shr_slice_of (0 ∷ []) tt (plain (λ _. E.the_row))) yes (λ κs x f. refl), (Goes-gave_slice 𝓛 4 1 tt (plain (λ _. u8)), (Goes-dropped 𝓛 4 (shr_slice_of (2 ∷ []) tt (plain (λ _. u8))) yes (λ κs x f. refl), (Goes-gave_slice 𝓛 4 3 tt (plain (λ _. u8)), tt)))))
         (clauses 𝓤) 𝓣 (function #core)
-        (λ κs. ((λ x. S.val x ∷ []), (shr_slice_vals, (shr_slice_vals, (shr_slice_vals, (shr_slice_vals, tt))))))
+        (λ κs. ((λ x. S.val x ∷ []), (shr_slice_vals, (mut_slice_vals, (shr_slice_vals, (mut_slice_vals, tt))))))
         (λ κs. (S.tells, (shr_slice_Tells (named 0) κs.0 E.the_row, (mut_slice_Tells (named 1) κs.1.0 u8, (shr_slice_Tells (named 2) κs.1.1.0 u8, (mut_slice_Tells (named 3) κs.1.1.1.0 u8, tt))))))
-        (λ κs qs bounds x g are. via 𝓤 _ (fst∗ 𝓤 _ (emp 𝓤)) (walk κs.0 κs.1.0 κs.1.1.0 κs.1.1.1.0 qs.0 qs.1.0 qs.1.1.0 qs.1.1.1.0 x.0 x.1.0 x.1.1.0 x.1.1.1.0 x.1.1.1.1.0 are.0 are.1.0 are.1.1.0 are.1.1.1.0 are.1.1.1.1.0 𝓣 known-gather known-core))
+        (λ κs qs bounds x g are. via 𝓤 _ (fst∗ 𝓤 _ (emp 𝓤)) (walk κs.0 κs.1.0 κs.1.1.0 κs.1.1.1.0 qs.0 qs.1.0 qs.1.1.0 qs.1.1.1.0 x.0 x.1.0 x.1.1.0 x.1.1.1.0 x.1.1.1.1.0 are.0 are.1.0 are.1.1.0 are.1.1.1.0 are.1.1.1.1.0 𝓣 known_gather known_core))

@@ -11,11 +11,11 @@ use mathlib.Core.List.{List, [], ◌∷◌, map}
 use lib.Dec.{lit<, T as Holds, ltb}
 use lib.ListN.{length}
 use seplogic.Ra.Ura.{Ura}
-use seplogic.Ra.TreeShare.{full_share}
-use mir.Syntax.{Name, Ty, Fn, named, erased, imm, mut, w8, w64, ty_int, ty_ref, ty_array, deref, field, place, copy, int, local, value_local, memory_slot, seq, assign, call, return, rv_opd, addr_of, aggregate}
+use base.Fraction.{full_share}
+use mir.Syntax.{Callee, Ty, Fn, named, erased, imm, mut, w8, w64, ty_int, ty_ref, ty_array, deref, field, place, copy, int, local, value_local, memory_slot, seq, assign, call, return, rv_opd, addr_of, aggregate}
 use mir.Val.{Val, bits}
 use base.Logic.{SProp, ent, emp, via, fst∗, id⊢}
-use base.Fml.{GName, Lft, Share, fat}
+use base.Fml.{Lft, Share, fat}
 use prog.Wp.{WpFn, Tables}
 use types.Logic.{Logic}
 use contract.Monad.{fact}
@@ -29,10 +29,10 @@ use denote.Memory.{pointee}
 use denote.Array.{Array, array_val, array_vals, Array-Tells, Array-Lawful}
 use denote.Builtin.{u8, ArrayOf, SliceRefOf, SliceRefMutOf}
 use denote.Exit.{yes, Last}
-use denote.Ref.{Bor}
+use denote.Ref.{Bor, MutBor}
 use denote.Signature.{plain, shr_slice_of}
 use denote.Signature.Array.{array_of}
-use denote.Slice.{Room, slice_ty, slice_val, finally, shr_slice_vals, shr_slice_Tells, shr_slice_Lawful, mut_slice_Tells, mut_slice_Lawful}
+use denote.Slice.{Room, slice_ty, slice_val, shr_slice_vals, shr_slice_Tells, shr_slice_Lawful, mut_slice_vals, mut_slice_Tells, mut_slice_Lawful}
 use denote.Steps.{owned, peeks, heard}
 use denote.Struct.Laws as LL
 use denote.Triple.Statement.{Triple}
@@ -53,7 +53,7 @@ use Rattle.record.proofs.Answer.TheLaws as R'
 use Rattle.buffers.proofs.Entry as entry
 use Rattle.buffers.proofs.Entry.{Says}
 use Rattle.buffers.proofs.Lends.{slice_at, lends, taken_back}
-use Rattle.buffers.proofs.Parts.{slice_val, Reading, Writing, own_list_lem, own_read, own_write, answer_typed, only_lasts}
+use Rattle.buffers.proofs.Parts.{shr_val, mut_val, Reading, Writing, own_list, own_read, own_write, gave_write, answer_typed, only_lasts}
 
 module _ (S : Plain) (rule : S.row.Denot → Memory → List Buffer → Outcome) (n : ℕ) where
   abbrev pub ended : Ended
@@ -83,10 +83,12 @@ module _ (S : Plain) (rule : S.row.Denot → Memory → List Buffer → Outcome)
   abbrev buffer : Ty
   buffer = pointee (E.the_row).written
 
-  abbrev pub function : Name → Fn
+  abbrev pub function : Callee → Fn
   function entry = record {
     lifetimes = 3;
     outlives = [];
+    ty_params = [];
+    givens = 0;
     params = 5;
     locals = local R'.mir value_local ∷ local S.ty value_local ∷ local (ty_array E'.mir n) value_local ∷ local (slice_ty (ty_ref (named 0) mut bytes)) value_local ∷ local (slice_ty (ty_ref (named 1) imm bytes)) value_local ∷ local (slice_ty (ty_ref (named 2) mut bytes)) value_local
         ∷ local (ty_array E'.mir n) memory_slot ∷ local (ty_ref erased imm (ty_array buffer n)) value_local ∷ local (slice_ty (ty_ref erased imm buffer)) value_local
@@ -105,22 +107,22 @@ module _ (S : Plain) (rule : S.row.Denot → Memory → List Buffer → Outcome)
   abbrev stayed : Stays ended.signature.params ended.kept
   stayed = (stay_dropped (plain (λ _. S.row)) yes, (stay_dropped (array_of (plain (λ _. E.the_row)) n) yes, (gave_slice (0 ∷ []) tt (plain (λ _. u8)), (stay_dropped (shr_slice_of (1 ∷ []) tt (plain (λ _. u8))) yes, (gave_slice (2 ∷ []) tt (plain (λ _. u8)), tt)))))
 
-  module _ {M : Type 1} {𝓤 : Ura M} (𝓛 : Logic 𝓤) (#entry : Name) (small : Holds (ltb n (2 ^ bits w64))) (room : Room E.the_row n) where
+  module _ {M : Type 1} {𝓤 : Ura M} (𝓛 : Logic 𝓤) (#entry : Callee) (small : Holds (ltb n (2 ^ bits w64))) (room : Room E.the_row n) where
     open 𝓛 use {H}
 
     abbrev Asked : Clauses 𝓤 (entry.ended S rule)
     Asked = entry.clauses S rule 𝓤
 
-    module _ (κone κtwo κpool : Lft) (qone qtwo qpool : Share) (s : S.row.Denot) (list : List Buffer) (one two pool : Bor (List ℕ)) where
+    module _ (κone κtwo κpool : Lft) (qone qtwo qpool : Share) (s : S.row.Denot) (list : List Buffer) (one : MutBor (List ℕ)) (two : Bor (List ℕ)) (pool : MutBor (List ℕ)) where
       -- the arguments, and their machine values
-      abbrev a : S.row.Denot × (List Buffer × (Bor (List ℕ) × (Bor (List ℕ) × (Bor (List ℕ) × Unit {0}))))
+      abbrev a : S.row.Denot × (List Buffer × (MutBor (List ℕ) × (Bor (List ℕ) × (MutBor (List ℕ) × Unit {0}))))
       a = (s, (list, (one, (two, (pool, tt)))))
 
       abbrev list_val : Val
       list_val = array_val (map (LL.val E.the_type E'.the_laws) list)
 
       abbrev vals : List Val × (List Val × (List Val × (List Val × (List Val × Unit {0}))))
-      vals = (S.val s ∷ [], (list_val ∷ [], (slice_val one ∷ [], (slice_val two ∷ [], (slice_val pool ∷ [], tt)))))
+      vals = (S.val s ∷ [], (list_val ∷ [], (mut_val one ∷ [], (shr_val two ∷ [], (mut_val pool ∷ [], tt)))))
 
       -- the lifetimes and shares of the regions, and with that of the array
       abbrev lent : List (Lft × Share)
@@ -130,55 +132,55 @@ module _ (S : Plain) (rule : S.row.Denot → Memory → List Buffer → Outcome)
       all_lent α = (α ∷ [], full_share) ∷ lent
 
       -- what the entry is handed, and what is left at the end
-      abbrev asked : ℕ → GName → ℕ → List (Item 𝓤)
-      asked α γ l = token_each 𝓤 (all_lent α) (‵ (own_list_lem (α ∷ []) (slice_at l γ list)) ∷ ‵ (own_write 0 κone one) ∷ ‵ (own_read 1 κtwo two) ∷ ‵ (own_write 2 κpool pool) ∷ [])
+      abbrev asked : ℕ → ℕ → List (Item 𝓤)
+      asked α l = token_each 𝓤 (all_lent α) (‵ (own_list (α ∷ []) (slice_at l list)) ∷ ‵ (own_write 0 κone one) ∷ ‵ (own_read 1 κtwo two) ∷ ‵ (own_write 2 κpool pool) ∷ [])
 
       abbrev left : Answer → Val → List ℕ → List ℕ → List (Item 𝓤)
-      left r w one-after pool-after = token_each 𝓤 lent (‵ ((R.the_row).own_val r (w ∷ [])) ∷ ‵ (finally u8 one.name one-after) ∷ ‵ (finally u8 pool.name pool-after) ∷ [])
+      left r w one_after pool_after = token_each 𝓤 lent (‵ ((R.the_row).own_val r (w ∷ [])) ∷ ‵ (gave_write κone one one_after) ∷ ‵ (gave_write κpool pool pool_after) ∷ [])
 
       abbrev Post : Val → SProp 𝓤
       Post = (walk_of 𝓛 ended stayed (clauses 𝓤)).post (((κone, (κtwo, (κpool, tt))), (qone, (qtwo, (qpool, tt))), tt, a, vals), tt)
 
-      module _ (s-is : Is S.row s (S.val s ∷ [])) (list-is : Is (Array E.the_row n) list (list_val ∷ [])) (one-is : Is (Writing 0 κone) one (slice_val one ∷ [])) (two_is : Is (Reading 1 κtwo) two (slice_val two ∷ [])) (pool-is : Is (Writing 2 κpool) pool (slice_val pool ∷ [])) where
+      module _ (s_is : Is S.row s (S.val s ∷ [])) (list_is : Is (Array E.the_row n) list (list_val ∷ [])) (one_is : Is (Writing 0 κone) one (mut_val one ∷ [])) (two_is : Is (Reading 1 κtwo) two (shr_val two ∷ [])) (pool_is : Is (Writing 2 κpool) pool (mut_val pool ∷ [])) where
         long : length list ≡ n
-        long = list-is.1.0.1
+        long = list_is.1.0.1
 
-        -- the call of the entry, at a lifetime α and a name γ, on the array at l
-        abbrev to : ℕ → GName → ℕ → (Of 𝓛 (entry.ended S rule) Asked).Ghost
-        to α γ l = (((α ∷ [], (κone, (κtwo, (κpool, tt)))), (full_share, (qone, (qtwo, (qpool, tt)))), tt, (s, (slice_at l γ list, (one, (two, (pool, tt))))), (S.val s ∷ [], (slice_val (l, 0) (length list) ∷ [], (slice_val one ∷ [], (slice_val two ∷ [], (slice_val pool ∷ [], tt)))))), tt)
+        -- the call of the entry, at a lifetime α, on the array at l
+        abbrev to : ℕ → ℕ → (Of 𝓛 (entry.ended S rule) Asked).Ghost
+        to α l = (((α ∷ [], (κone, (κtwo, (κpool, tt)))), (full_share, (qone, (qtwo, (qpool, tt)))), tt, (s, (slice_at l list, (one, (two, (pool, tt))))), (S.val s ∷ [], (slice_val (l, 0) (length list) ∷ [], (mut_val one ∷ [], (shr_val two ∷ [], (mut_val pool ∷ [], tt)))))), tt)
 
-        asks : (α : ℕ) (γ : GName) (l : ℕ) → ent 𝓤 (⋆ 𝓛 (asked α γ l)) ((Of 𝓛 (entry.ended S rule) Asked).pre (to α γ l))
-        asks α γ l =
-            qed 𝓛 (asked α γ l) ∵ together ! (all_lent α) $ move ! (2 ∷ 3 ∷ 4 ∷ []) $ packs ! $ move ! (2 ∷ 0 ∷ []) $ fjoin ! $ owned ! S.row (Is S.row) (S.makes 𝓛) s _ s-is $ fjoin ! $ move ! (1 ∷ 0 ∷ []) $ join ! $ frame ! $ done !
+        asks : (α : ℕ) (l : ℕ) → ent 𝓤 (⋆ 𝓛 (asked α l)) ((Of 𝓛 (entry.ended S rule) Asked).pre (to α l))
+        asks α l =
+            qed 𝓛 (asked α l) ∵ together ! (all_lent α) $ move ! (2 ∷ 3 ∷ 4 ∷ []) $ packs ! $ move ! (2 ∷ 0 ∷ []) $ fjoin ! $ owned ! S.row (Is S.row) (S.makes 𝓛) s _ s_is $ fjoin ! $ move ! (1 ∷ 0 ∷ []) $ join ! $ frame ! $ done !
 
-        exits : (r : Answer) (w : Val) (one-after pool-after : List ℕ) (f : Last (S.row.exit yes) s) → Says S rule s list one.now two.now pool.now r one-after pool-after → length one-after ≡ length one.now → length pool-after ≡ length pool.now
-            → ent 𝓤 (⋆ 𝓛 (left r w one-after pool-after)) (Post w)
-        exits r w one-after pool-after f e one_length pool_length =
-            qed 𝓛 (left r w one-after pool-after) ∵
-            suffices ! _ (ends_at 𝓛 ended stayed (clauses 𝓤) (((κone, (κtwo, (κpool, tt))), (qone, (qtwo, (qpool, tt))), tt, a, vals), tt) w r (f, (tt, (one-after, (tt, (pool-after, tt))))) (tt, (tt, (one_length, (tt, (pool_length, tt)))))) $ says ! e $
+        exits : (r : Answer) (w : Val) (one_after pool_after : List ℕ) (f : Last (S.row.exit yes) s) → Says S rule s list one.now two.now pool.now r one_after pool_after → length one_after ≡ length one.now → length pool_after ≡ length pool.now
+            → ent 𝓤 (⋆ 𝓛 (left r w one_after pool_after)) (Post w)
+        exits r w one_after pool_after f e one_length pool_length =
+            qed 𝓛 (left r w one_after pool_after) ∵
+            suffices ! _ (ends_at 𝓛 ended stayed (clauses 𝓤) (((κone, (κtwo, (κpool, tt))), (qone, (qtwo, (qpool, tt))), tt, a, vals), tt) w r (f, (tt, (one_after, (tt, (pool_after, tt))))) (tt, (tt, (one_length, (tt, (pool_length, tt)))))) $ says ! e $
             together ! lent $ frame ! $ move ! (1 ∷ 2 ∷ []) $ only_lasts ! $ done !
 
         walk : (𝓣 : Tables 𝓤 H) → Triple 𝓤 (𝓣.C #entry) (Of 𝓛 (entry.ended S rule) Asked)
-            → ent 𝓤 (on_entry 𝓛 ended.signature (κone, (κtwo, (κpool, tt))) (qone, (qtwo, (qpool, tt))) a vals) (WpFn 𝓤 H 𝓣.C 𝓣.Λ (function #entry) (S.val s ∷ list_val ∷ slice_val one ∷ slice_val two ∷ slice_val pool ∷ []) Post)
+            → ent 𝓤 (on_entry 𝓛 ended.signature (κone, (κtwo, (κpool, tt))) (qone, (qtwo, (qpool, tt))) a vals) (WpFn 𝓤 H 𝓣.C 𝓣.Λ (function #entry) (S.val s ∷ list_val ∷ mut_val one ∷ shr_val two ∷ mut_val pool ∷ []) Post)
         walk 𝓣 known =
-            qed 𝓛 (tokens 𝓤 lent ∷ ‵ (owns (S.row ∷ Array E.the_row n ∷ Writing 0 κone ∷ Reading 1 κtwo ∷ Writing 2 κpool ∷ []) a vals) ∷ []) ∵ enter ! 𝓣.C 𝓣.Λ (function #entry) (S.val s ∷ list_val ∷ slice_val one ∷ slice_val two ∷ slice_val pool ∷ []) _ $
+            qed 𝓛 (tokens 𝓤 lent ∷ ‵ (owns (S.row ∷ Array E.the_row n ∷ Writing 0 κone ∷ Reading 1 κtwo ∷ Writing 2 κpool ∷ []) a vals) ∷ []) ∵ enter ! 𝓣.C 𝓣.Λ (function #entry) (S.val s ∷ list_val ∷ mut_val one ∷ shr_val two ∷ mut_val pool ∷ []) _ $
             alloc1 ! (λ l0. alloc1 ! (λ l1. alloc1 ! (λ l2. alloc1 ! (λ l3. alloc1 ! (λ l4. alloc1 ! (λ l5. alloc1 ! (λ l6. alloc1 ! (λ l7. alloc1 ! (λ l8. alloc1 ! (λ l9. alloc1 ! (λ l10. alloc1 ! (λ l11. alloc1 ! (λ l12. alloc0 ! $ params1 ! $
-            pass1 ! (init ! 22 refl (S.typed 𝓛 s _ s-is)) $ pass1 ! (init ! 20 refl ((Array-Lawful 𝓛 E.the_row (LL.lawful E.the_type E'.the_laws 𝓛) n).typed list _ list-is).0) $ pass1 ! (init ! 18 refl ((mut_slice_Lawful 𝓛 (named 0) κone u8).typed one _ one-is).0) $
-            pass1 ! (init ! 16 refl ((shr_slice_Lawful 𝓛 (named 1) κtwo u8).typed two _ two_is).0) $ pass1 ! (init ! 14 refl ((mut_slice_Lawful 𝓛 (named 2) κpool u8).typed pool _ pool-is).0) $ pass0 ! $
+            pass1 ! (init ! 22 refl (S.typed 𝓛 s _ s_is)) $ pass1 ! (init ! 20 refl ((Array-Lawful 𝓛 E.the_row (LL.lawful E.the_type E'.the_laws 𝓛) n).typed list _ list_is).0) $ pass1 ! (init ! 18 refl ((mut_slice_Lawful 𝓛 (named 0) κone u8).typed one _ one_is).0) $
+            pass1 ! (init ! 16 refl ((shr_slice_Lawful 𝓛 (named 1) κtwo u8).typed two _ two_is).0) $ pass1 ! (init ! 14 refl ((mut_slice_Lawful 𝓛 (named 2) κpool u8).typed pool _ pool_is).0) $ pass0 ! $
             -- [_12; …; _0; …; the tokens; what the parameters own]
             move ! (27 ∷ []) $ skips ! $ skips ! $ keeps ! $ keeps ! $ keeps ! $ drop ! $ move ! (29 ∷ []) $ apart ! lent $
             -- [the tokens of pool, two, one; what they own; _12; …]
-            assigns ! (of_opd ! (cell ! 26 refl)) (from ! (stop !)) (init ! 18 refl ((Array-Lawful 𝓛 E.the_row (LL.lawful E.the_type E'.the_laws 𝓛) n).typed list _ list-is).0) $
+            assigns ! (of_opd ! (cell ! 26 refl)) (from ! (stop !)) (init ! 18 refl ((Array-Lawful 𝓛 E.the_row (LL.lawful E.the_type E'.the_laws 𝓛) n).typed list _ list_is).0) $
             assigns ! (addr ! (from ! (stop !))) (from ! (stop !)) (init ! 16 refl (tt, tt)) $
             assigns ! (agg ! (and_then ! (cell ! 16 refl) (and_then ! (lit ! small) (no_more !)))) (from ! (stop !)) (init ! 14 refl (tt, (tt, (record { fits = lit< small }, tt)))) $
-            relends ! 24 12 10 refl (sub ! 0 refl (whole !)) refl (tt, tt) refl refl (sub ! 1 refl (whole !)) refl (tt, (tt, (record { fits = one-is.0.1.0 }, tt))) $
-            relends ! 20 8 6 refl (sub ! 0 refl (whole !)) refl (tt, tt) refl refl (sub ! 1 refl (whole !)) refl (tt, (tt, (record { fits = pool-is.0.1.0 }, tt))) $
+            relends ! 24 12 10 refl (sub ! 0 refl (whole !)) refl (tt, tt) refl refl (sub ! 1 refl (whole !)) refl (tt, (tt, (record { fits = one_is.0.1.0 }, tt))) $
+            relends ! 20 8 6 refl (sub ! 0 refl (whole !)) refl (tt, tt) refl refl (sub ! 1 refl (whole !)) refl (tt, (tt, (record { fits = pool_is.0.1.0 }, tt))) $
             rewrite ! 14 (λ (k : ℕ). ‵ (fat full_share (slice_ty (ty_ref erased imm buffer)) l8 0 (slice_val (l6, 0) k))) (sym long) refl $
             -- the array is lent
-            move ! (18 ∷ []) $ lends ! tt n list list_val l6 list-is long (subst (λ (k : ℕ). Room E.the_row k) (sym long) room) (λ α γ.
-            move ! (3 ∷ 4 ∷ 5 ∷ 0 ∷ 1 ∷ 8 ∷ 7 ∷ 6 ∷ []) $ cut (asked α γ l6) (raw ((Of 𝓛 (entry.ended S rule) Asked).pre (to α γ l6)) ∷ []) _ (asks α γ l6) $
+            move ! (18 ∷ []) $ lends ! tt n list list_val l6 list_is long (subst (λ (k : ℕ). Room E.the_row k) (sym long) room) (λ α.
+            move ! (3 ∷ 4 ∷ 5 ∷ 0 ∷ 1 ∷ 8 ∷ 7 ∷ 6 ∷ []) $ cut (asked α l6) (raw ((Of 𝓛 (entry.ended S rule) Asked).pre (to α l6)) ∷ []) _ (asks α l6) $
             -- [what the entry asks; the lender's part; _12; …]
-            calls_told ! (fm_of 𝓤 H 𝓛.laws 𝓣) (entry.ended S rule) Asked known (to α γ l6) (and_then ! (cell ! 23 refl) (and_then ! (cell ! 10 refl) (and_then ! (cell ! 6 refl) (and_then ! (cell ! 17 refl) (and_then ! (cell ! 2 refl) (no_more !)))))) (λ w r ws.
+            calls_told ! (fm_of 𝓤 H 𝓛.laws 𝓣) (entry.ended S rule) Asked known (to α l6) (and_then ! (cell ! 23 refl) (and_then ! (cell ! 10 refl) (and_then ! (cell ! 6 refl) (and_then ! (cell ! 17 refl) (and_then ! (cell ! 2 refl) (no_more !)))))) (λ w r ws.
             heard ! (Says S rule s list one.now two.now pool.now r ws.1.1.0 ws.1.1.1.1.0) (λ e. skips ! $ skips ! $ last_is ! (λ one_length. skips ! $ last_is ! (λ pool_length. drop ! $
             -- [the last values of pool, one; the result; the entry's tokens; the lender's part; _12; …]
             move ! (3 ∷ []) $ use1 𝓛 (tokens 𝓤 (all_lent α)) (id⊢ 𝓤 _) $ apart ! (all_lent α) $ move ! (6 ∷ []) $ peeks ! R.the_row (Is R.the_row) (shows 𝓛 R.the_row) r (w ∷ []) (λ is.
@@ -194,6 +196,6 @@ module _ (S : Plain) (rule : S.row.Denot → Memory → List Buffer → Outcome)
         closes 𝓛 ended stayed
         (Goes-dropped 𝓛 3 (plain (λ _. S.row)) yes (λ κs x f. S.silent x f), (Goes-dropped 𝓛 3 (array_of (plain (λ _. E.the_row)) n) yes (λ κs x f. refl), (Goes-gave_slice 𝓛 3 0 tt (plain (λ _. u8)), (Goes-dropped 𝓛 3 (shr_slice_of (1 ∷ []) tt (plain (λ _. u8))) yes (λ κs x f. refl), (Goes-gave_slice 𝓛 3 2 tt (plain (λ _. u8)), tt)))))
         (clauses 𝓤) 𝓣 (function #entry)
-        (λ κs. ((λ x. S.val x ∷ []), (array_vals (LL.vals E.the_type E'.the_laws), (shr_slice_vals, (shr_slice_vals, (shr_slice_vals, tt))))))
+        (λ κs. ((λ x. S.val x ∷ []), (array_vals (LL.vals E.the_type E'.the_laws), (mut_slice_vals, (shr_slice_vals, (mut_slice_vals, tt))))))
         (λ κs. (S.tells, (Array-Tells E.the_row (LL.vals E.the_type E'.the_laws) (LL.tells E.the_type E'.the_laws) n, (mut_slice_Tells (named 0) κs.0 u8, (shr_slice_Tells (named 1) κs.1.0 u8, (mut_slice_Tells (named 2) κs.1.1.0 u8, tt))))))
         (λ κs qs bounds x g are. via 𝓤 _ (fst∗ 𝓤 _ (emp 𝓤)) (walk κs.0 κs.1.0 κs.1.1.0 qs.0 qs.1.0 qs.1.1.0 x.0 x.1.0 x.1.1.0 x.1.1.1.0 x.1.1.1.1.0 are.0 are.1.0 are.1.1.0 are.1.1.1.0 are.1.1.1.1.0 𝓣 known))

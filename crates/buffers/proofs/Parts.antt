@@ -8,14 +8,17 @@ use lib.ListN.{length}
 use seplogic.Ra.Ura.{Ura}
 use mir.Syntax.{named}
 use mir.Val.{Val, WT, has_ty}
-use base.Fml.{Lft, Fml, ftrue, fsep}
+use base.Fml.{Lft, Fml, ftrue, fsep, fbor}
 use types.Logic.{Logic}
+use types.SemTy.{Body, Arr}
+use types.Hole.{Holey}
 use types.Kit.{Item, Goal, Step, step, ‵, ◌$◌, move, fjoin}
 use denote.Laws.{Is}
 use denote.Builtin.{u8}
 use denote.RattleType.{RattleType}
-use denote.Ref.{Bor}
-use denote.Slice.{slice_val, ShrSlice, MutSlice}
+use denote.Memory.{mem}
+use denote.Ref.{Bor, MutBor}
+use denote.Slice.{slice_val, finally, ShrSlice, MutSlice}
 use denote.Steps.{nothing}
 use denote.Struct.Laws as LL
 use Rattle.walks.proofs.Plain.{Plain}
@@ -29,8 +32,12 @@ use Rattle.record.proofs.Answer.TheLaws as R'
 use Rattle.buffers.specs.contracts.Outstanding as O
 use Rattle.buffers.proofs.Outstanding.TheLaws as O'
 
-abbrev pub slice_val : {X : Type 0} → Bor (List X) → Val
-slice_val s = slice_val s.ref_ptr (length s.now)
+-- a slice reference's machine value
+abbrev pub shr_val : {X : Type 0} → Bor (List X) → Val
+shr_val s = slice_val s.ref_ptr (length s.now)
+
+abbrev pub mut_val : {X : Type 0} → MutBor (List X) → Val
+mut_val s = slice_val s.ref_ptr (length s.now)
 
 -- ---- the references' types, by their numbers in a signature: the list, a region lent for reading, and one lent for writing
 
@@ -44,14 +51,18 @@ abbrev pub Writing : ℕ → Lft → RattleType
 Writing j κ = MutSlice (named j) κ u8
 
 -- what they own
-abbrev pub own_list_lem : Lft → Bor (List Buffer) → Fml
-own_list_lem κ s = (Listing κ).own s (slice_val s ∷ [])
+abbrev pub own_list : Lft → Bor (List Buffer) → Fml
+own_list κ s = (Listing κ).own_val s (shr_val s ∷ [])
 
 abbrev pub own_read : ℕ → Lft → Bor (List ℕ) → Fml
-own_read j κ s = (Reading j κ).own s (slice_val s ∷ [])
+own_read j κ s = (Reading j κ).own_val s (shr_val s ∷ [])
 
-abbrev pub own_write : ℕ → Lft → Bor (List ℕ) → Fml
-own_write j κ s = (Writing j κ).own s (slice_val s ∷ [])
+abbrev pub own_write : ℕ → Lft → MutBor (List ℕ) → Fml
+own_write j κ s = (Writing j κ).own_val s (mut_val s ∷ [])
+
+-- what is left of one lent for writing, which last holds ys: that it does, and the borrow
+abbrev pub gave_write : Lft → MutBor (List ℕ) → List ℕ → Fml
+gave_write κ s ys = fsep (finally u8 s.ghost_name ys) (fbor κ (Body (Arr (Holey (mem u8)) (length s.now)) s.ref_ptr.0 s.ref_ptr.1 s.ghost_name))
 
 -- ---- plain types
 

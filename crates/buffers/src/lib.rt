@@ -1,5 +1,4 @@
-// The queue's calls over a list of buffers lent as a slice of structs. Each entry copies the list into number arrays and makes the call of crate record;
-// its proof is by hand, since a slice of structs is outside what the prover walks by itself.
+// The queue's calls over a list of buffers lent as a slice of structs. Each entry copies the list into number arrays and makes the call of crate record.
 // A list of more than 64 buffers fits no queue, and of such a list a call asks only whether it is in order. So 65 buffers can stand for it.
 #![tactic(auto)]
 
@@ -97,7 +96,7 @@ fn keep(g: Gathered, i: usize, b: Buffer) -> Gathered
     }
 }
 
-// By hand: the only loop over a slice of structs.
+// The only loop over a slice of structs.
 fn gather(list: &[Buffer]) -> Gathered
     ensures { result ≡ gathered list.now }
 {
@@ -197,7 +196,7 @@ fn pop_used_gathered(
     queue.pop_used(chain.token, &addrs[..k], &sizes, &outs, one, two, pool)
 }
 
-// ---- the entries, by hand: one shape, so that one law proves them (proofs/Entry.antt)
+// ---- the entries: one shape, of which proofs/Entry.antt has one law
 
 // Opens an add: everything is checked, and the private record updated but for avail_idx.
 pub fn open_add(

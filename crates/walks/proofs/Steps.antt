@@ -5,7 +5,7 @@
 --     frees_at     a local at place n is freed, whatever it holds
 --     apart, together   tokens of lifetimes, from one item and into one
 --     skips, keeps, packs   what parameters own, one by one and as one
---     last_is      what is said of a `&mut` slice's last value
+--     last_is      what is said of a `&mut` slice's last value, and that the slice's borrow is left
 --     relends      a `&mut` slice is lent on
 --     closes       from a walk at each choice of lifetimes, shares and arguments to `Meets`: `walked` and `walk_Meets` in one
 -- Assumes `Logic`.
@@ -15,8 +15,8 @@ use Prim.Native.Nat.{ℕ, zero, ◌+◌}
 use lib.Dec.{T as Holds}
 use mathlib.Core.Option.{some as just}
 use seplogic.Ra.Ura.{Ura}
-use seplogic.Ra.TreeShare.{full_share}
-use mir.Syntax.{Name, Ty, Place, place, field, deref, Opd as Operand, copy, addr_of, aggregate, Body, Fn, seq, assign, call}
+use base.Fraction.{full_share}
+use mir.Syntax.{Callee, Ty, Place, place, field, deref, Opd as Operand, copy, addr_of, aggregate, Body, Fn, seq, assign, call}
 use mir.Val.{Val, vptr, vstruct, of_list, WT, has_ty}
 use base.Logic.{ent, sep, id⊢, via, mono_l, mono_r, assoc'}
 use base.Fml.{Lft, Share, Fml, ftrue, fsep, feq, fat, froom, fdies, flft}
@@ -46,7 +46,7 @@ Of 𝓛 T c = triple_of 𝓛 T.signature (closing 𝓛 T c)
 module _ {M : Type 1} {𝓤 : Ura M} {𝓛 : Logic 𝓤} {K : Type 0} {Γ : List (Item 𝓤)} {E₀ : Env 𝓤 𝓛.H} {C : Calls 𝓤 𝓛.H} {Λ : Loops 𝓤 𝓛.H} {q₀ : Post 𝓤 𝓛.H} {d : Place} {xs₀ : List Operand} {rest : Body} where
   open 𝓛 use {H}
 
-  pub calls_told : K → FmC 𝓤 H 𝓛.laws C → {f : Name} (T : Ended) (c : Clauses 𝓤 T) → Triple 𝓤 (C f) (Of 𝓛 T c) → (x : (Of 𝓛 T c).Ghost) → Opds K 𝓛 (raw ((Of 𝓛 T c).pre x) ∷ Γ) E₀ xs₀ ((Of 𝓛 T c).args x)
+  pub calls_told : K → FmC 𝓤 H 𝓛.laws C → {f : Callee} (T : Ended) (c : Clauses 𝓤 T) → Triple 𝓤 (C f) (Of 𝓛 T c) → (x : (Of 𝓛 T c).Ghost) → Opds K 𝓛 (raw ((Of 𝓛 T c).pre x) ∷ Γ) E₀ xs₀ ((Of 𝓛 T c).args x)
       → ((u : Val) (r : Res T.signature x.0.0) (ws : Lasts T x.0.0 x.0.3)
       → Seq K 𝓛 (raw ((c x.0.0 x.0.3).ensures x.1 r (at_exit T x.0.0 x.0.3 ws)) ∷ ‵ (lasts T x.0.0 x.0.3 ws) ∷ ‵ ((type_at T.signature.result x.0.0).own_val r (u ∷ [])) ∷ raw (alive 𝓛 T.signature x.0.0 x.0.1) ∷ Γ) (lands C Λ E₀ d u rest q₀))
       → Seq K 𝓛 (raw ((Of 𝓛 T c).pre x) ∷ Γ) (runs C Λ E₀ (seq (call f xs₀ d) rest) q₀)
@@ -107,9 +107,9 @@ module _ {M : Type 1} {𝓤 : Ura M} {𝓛 : Logic 𝓤} {K : Type 0} {G : Goal 
     pub packs : K → {P Q R : Fml} → Step K 𝓛 (‵ (fsep P (fsep Q (fsep R ftrue))) ∷ Γ) G (‵ P ∷ ‵ Q ∷ ‵ R ∷ Γ) G
     packs t = step (λ s. nothing t $ move t (3 ∷ 0 ∷ []) $ fjoin t $ move t (2 ∷ 0 ∷ []) $ fjoin t $ move t (1 ∷ 0 ∷ []) $ fjoin t $ s)
 
-    -- of a `&mut` slice, what it holds last is kept, and its length learnt
-    pub last_is : K → {F P : Fml} {X : Type 0} {x y : X} → (x ≡ y → Seq K 𝓛 (‵ P ∷ ‵ F ∷ Γ) G) → Seq K 𝓛 (‵ (fsep (fsep F (feq X x y)) P) ∷ Γ) G
-    last_is t k = fsplit t $ fsplit t $ move t (1 ∷ []) $ feq_l t (λ e. move t (1 ∷ []) $ k e)
+    -- of a `&mut` slice, what it holds last is kept with its borrow B, and its length learnt
+    pub last_is : K → {F B P : Fml} {X : Type 0} {x y : X} → (x ≡ y → Seq K 𝓛 (‵ P ∷ ‵ (fsep F B) ∷ Γ) G) → Seq K 𝓛 (‵ (fsep (fsep (fsep F (feq X x y)) B) P) ∷ Γ) G
+    last_is t k = fsplit t $ fsplit t $ fsplit t $ move t (1 ∷ []) $ feq_l t (λ e. fjoin t $ move t (1 ∷ []) $ k e)
 
 -- local r holds v, or is free, and v is of its type
 module _ {M : Type 1} (𝓤 : Ura M) (H : Heap 𝓤) (E : Env 𝓤 H) where
