@@ -1,5 +1,6 @@
-# Writes what mayketura.h must say, read from crates/exports/src/*.rt and crates/rules/specs/Answer.antt: each field's offset and each struct's size by the rule
-# of #[repr(C)], each exported function's type, and the answers' numbers, as a file in C (-v to=c); or the structs with the first of these, in Rust (-v to=rust).
+# Writes what mayketura.h must say, read from crates/exports/src/*.rt (the structs), crates/exports_c/src/*.rt (the functions) and crates/rules/specs/Answer.antt:
+# each field's offset and each struct's size by the rule of #[repr(C)], each exported function's type, and the answers' numbers, as a file in C (-v to=c); or the
+# structs with the first of these, in Rust (-v to=rust).
 BEGIN {
     bytes["u8"] = bytes["bool"] = 1
     bytes["u16"] = 2
@@ -87,9 +88,11 @@ marked && /^}/ {
     structs++
 }
 
-# ---- the functions: each is declared again, which a compiler refuses of another type
+# ---- the functions: each is declared again, which a compiler refuses of another type; each that crate exports offers is exported
 
-/^#\[no_mangle\]/ { exported++ }
+/^pub fn mayketura_/ { offered++ }
+
+/^#\[unsafe\(no_mangle\)\]/ { exported++ }
 
 to == "c" && /^pub extern "C" fn [a-z_]+(<'a>)?\($/ {
     called = $5
@@ -121,5 +124,5 @@ to == "c" && /^[A-Z][A-Za-z]+ = [0-9]+$/ && $1 != "OverLength" && $1 != "Busy" {
 }
 
 END {
-    if (!wrong && (structs != 6 || (to == "c" && (functions != exported || numbers != 11)))) complain("not all structs, functions or numbers were found")
+    if (!wrong && (structs != 6 || exported != offered || (to == "c" && (functions != exported || numbers != 11)))) complain("not all structs, functions or numbers were found")
 }

@@ -1,4 +1,4 @@
-//! Links the archive that `rt staticlib exports` writes.
+//! Links the archive that `tools/staticlib` writes.
 use std::{env, path::Path};
 
 fn main() {

@@ -51,9 +51,9 @@ def archive():
     if not shutil.which("rt"):
         print("oracle: the Rattle kit's command rt, which makes our archive, is not on the PATH")
         return False
-    told = subprocess.run(["rt", "staticlib", "exports"], cwd=ROOT, stdout=subprocess.PIPE, stderr=subprocess.STDOUT, text=True)
+    told = subprocess.run([os.path.join(ROOT, "tools", "staticlib")], stdout=subprocess.PIPE, stderr=subprocess.STDOUT, text=True)
     if told.returncode != 0:
-        print("oracle: rt staticlib exports failed; its last lines:", *told.stdout.splitlines()[-10:], sep="\n  ")
+        print("oracle: tools/staticlib failed; its last lines:", *told.stdout.splitlines()[-10:], sep="\n  ")
     return told.returncode == 0
 
 

@@ -1,5 +1,7 @@
-// The queue for programs in C and Rust: new, add, pop_used and peek_used as exported functions, over a record by value and over tables that the caller lends.
-// Their record has no field for the open call, since whole calls leave none open.
+// The queue for programs in C and Rust: new, add, pop_used and peek_used, over a record by value and over tables that the caller lends; crate exports_c exports
+// them under these names. Their record has no field for the open call, since whole calls leave none open.
+#![tactic(auto)]
+
 ghost use Rattle.std.specs.Prelude.{◌≡◌};
 ghost use Rattle.rules.specs.Calls.{add as add_is, pop_used, peek_used};
 ghost use Rattle.rules.specs.New.{new as new_is};
@@ -13,7 +15,7 @@ use record::{Ask, Queue};
 use rules::{Modes, Open};
 use views::Core;
 
-mod single;
+pub mod single;
 
 // The record's fields beside its tables and the open call.
 #[repr(C)]
@@ -163,13 +165,7 @@ fn flat_of(q: Queue) -> Flat
 // ---- the record by value
 
 // record's new.
-#[unsafe(no_mangle)]
-pub extern "C" fn mayketura_new(
-    ask: FlatAsk,
-    one: &mut [u8],
-    two: &mut [u8],
-    pool: &[u8],
-) -> FlatMade
+pub fn mayketura_new(ask: FlatAsk, one: &mut [u8], two: &mut [u8], pool: &[u8]) -> FlatMade
     ensures { made_of (made_is result) (memory one.new two.new pool.now) ≡ new_is (ask_of (ask_is ask)) (memory one.old two.old pool.now) }
 {
     let modes = Modes {
@@ -198,8 +194,7 @@ pub extern "C" fn mayketura_new(
 }
 
 // record's add.
-#[unsafe(no_mangle)]
-pub extern "C" fn mayketura_add(
+pub fn mayketura_add(
     q: Flat,
     addrs: &[u64],
     sizes: &[u32],
@@ -222,8 +217,7 @@ pub extern "C" fn mayketura_add(
 }
 
 // record's pop_used.
-#[unsafe(no_mangle)]
-pub extern "C" fn mayketura_pop_used(
+pub fn mayketura_pop_used(
     q: Flat,
     token: u32,
     addrs: &[u64],
@@ -247,13 +241,7 @@ pub extern "C" fn mayketura_pop_used(
 }
 
 // record's peek_used.
-#[unsafe(no_mangle)]
-pub extern "C" fn mayketura_peek_used(
-    q: Flat,
-    one: &mut [u8],
-    two: &[u8],
-    pool: &mut [u8],
-) -> FlatAnswer
+pub fn mayketura_peek_used(q: Flat, one: &mut [u8], two: &[u8], pool: &mut [u8]) -> FlatAnswer
     ensures { answer_of (answer_is result) (memory one.new two.now pool.new) ≡ peek_used (abs (queue_of q)) (memory one.old two.now pool.old) }
 {
     let queue = queue_of(q);
@@ -270,8 +258,7 @@ pub extern "C" fn mayketura_peek_used(
 // ---- the record's tables lent
 
 // queue's add, over tables at the limit.
-#[unsafe(no_mangle)]
-pub extern "C" fn mayketura_add_lent(
+pub fn mayketura_add_lent(
     p: Plain,
     words: &mut [u64; 4160],
     lens: &mut [u32; 4160],
@@ -300,8 +287,7 @@ pub extern "C" fn mayketura_add_lent(
 }
 
 // queue's pop_used, over tables at the limit.
-#[unsafe(no_mangle)]
-pub extern "C" fn mayketura_pop_used_lent(
+pub fn mayketura_pop_used_lent(
     p: Plain,
     words: &mut [u64; 4160],
     lens: &mut [u32; 4160],
@@ -331,8 +317,7 @@ pub extern "C" fn mayketura_pop_used_lent(
 }
 
 // queue's peek_used, over tables at the limit.
-#[unsafe(no_mangle)]
-pub extern "C" fn mayketura_peek_used_lent(
+pub fn mayketura_peek_used_lent(
     p: Plain,
     words: &mut [u64; 4160],
     lens: &mut [u32; 4160],

@@ -11,13 +11,7 @@ use crate::{Flat, FlatAnswer, LentAnswer, Plain, core_of, flat_of, plain_of, que
 // ---- the record by value
 
 // record's can_pop.
-#[unsafe(no_mangle)]
-pub extern "C" fn mayketura_can_pop<'a>(
-    q: Flat,
-    one: &'a [u8],
-    two: &'a [u8],
-    pool: &[u8],
-) -> FlatAnswer
+pub fn mayketura_can_pop<'a>(q: Flat, one: &'a [u8], two: &'a [u8], pool: &[u8]) -> FlatAnswer
     ensures { answer_of (answer_is result) (memory one.now two.now pool.now) ≡ can_pop (abs (queue_of q)) (memory one.now two.now pool.now) }
 {
     let queue = queue_of(q);
@@ -32,13 +26,7 @@ pub extern "C" fn mayketura_can_pop<'a>(
 }
 
 // record's should_notify.
-#[unsafe(no_mangle)]
-pub extern "C" fn mayketura_should_notify<'a>(
-    q: Flat,
-    one: &'a [u8],
-    two: &'a [u8],
-    pool: &[u8],
-) -> FlatAnswer
+pub fn mayketura_should_notify<'a>(q: Flat, one: &'a [u8], two: &'a [u8], pool: &[u8]) -> FlatAnswer
     ensures { answer_of (answer_is result) (memory one.now two.now pool.now) ≡ should_notify (abs (queue_of q)) (memory one.now two.now pool.now) }
 {
     let queue = queue_of(q);
@@ -53,8 +41,7 @@ pub extern "C" fn mayketura_should_notify<'a>(
 }
 
 // record's set_dev_notify.
-#[unsafe(no_mangle)]
-pub extern "C" fn mayketura_set_dev_notify(
+pub fn mayketura_set_dev_notify(
     q: Flat,
     wanted: bool,
     one: &mut [u8],
@@ -77,8 +64,7 @@ pub extern "C" fn mayketura_set_dev_notify(
 // ---- the record's tables lent
 
 // asks' can_pop, over tables at the limit.
-#[unsafe(no_mangle)]
-pub extern "C" fn mayketura_can_pop_lent<'a>(
+pub fn mayketura_can_pop_lent<'a>(
     p: Plain,
     words: &[u64; 4160],
     lens: &[u32; 4160],
@@ -102,8 +88,7 @@ pub extern "C" fn mayketura_can_pop_lent<'a>(
 }
 
 // asks' should_notify, over tables at the limit.
-#[unsafe(no_mangle)]
-pub extern "C" fn mayketura_should_notify_lent<'a>(
+pub fn mayketura_should_notify_lent<'a>(
     p: Plain,
     words: &[u64; 4160],
     lens: &[u32; 4160],
@@ -127,8 +112,7 @@ pub extern "C" fn mayketura_should_notify_lent<'a>(
 }
 
 // asks' set_dev_notify, over tables at the limit.
-#[unsafe(no_mangle)]
-pub extern "C" fn mayketura_set_dev_notify_lent(
+pub fn mayketura_set_dev_notify_lent(
     p: Plain,
     words: &[u64; 4160],
     lens: &[u32; 4160],

@@ -1,0 +1,25 @@
+-- `exports::mayketura_pop_used` meets its contract: record's method, by way of C's record, which loses no open call.
+-- Assumes nothing.
+use mathlib.Core.Path.{refl, ap}
+use borrow.Author.Rules.{rules}
+use Rattle.access.specs.Accesses.{memory}
+use Rattle.opens.specs.Given.{given}
+use Rattle.refusals.specs.Checked.{Indices}
+use Rattle.record.specs.Abs.{Arrays}
+use Rattle.exports.specs.Flat.{core_of, queue_of}
+use Rattle.exports.specs.Closed.{pop_back}
+use Rattle.exports.proofs.mayketura_pop_used.Goals.{Start}
+use Rattle.exports.proofs.mayketura_pop_used.Goals as goal
+
+-- the arrays have their lengths, the indices 16 bits
+arrays : (s : Start) → Arrays (queue_of s.args.q)
+arrays s = search rules
+
+indices : (s : Start) → Indices (core_of s.args.q.plain)
+indices s = search rules
+
+pub returns : goal.returns
+returns c =
+    pop_back (queue_of c.args.q) c.queue_of-queue.result c.pop_used-done.result (queue_of c.flat_of-after.result) (memory c.args.one.now c.args.two.now c.args.pool.now) _
+    (arrays (goal.at.returns c).Start) (indices (goal.at.returns c).Start) refl c.queue_of-queue.ensures (ap queue_of c.flat_of-after.ensures) c.args.token
+    (given c.args.addrs.now c.args.sizes.now c.args.outs.now) c.pop_used-done.ensures
