@@ -23,7 +23,7 @@ struct Request {
     status: Buffer,
 }
 
-// ---- the calls, each with a list of its own. Code that lends a slice of structs is proved by hand, and for this shape by one law (buffers/proofs/Lender.antt).
+// ---- the calls, each with a list of its own that it lends as a slice of structs; the check proves them with nothing written in proofs/
 
 fn add_request(
     queue: Queue,

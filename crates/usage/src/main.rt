@@ -15,7 +15,7 @@ use std::io;
 use std::io::Write;
 use virtio::Buffer;
 
-// By the law of lenders, as pop_request.
+// It lends its list as a slice of structs, as pop_request does; the check proves both with nothing written in proofs/.
 fn add_request(
     queue: Queue,
     list: [Buffer; 3],
