@@ -1,5 +1,7 @@
 // The replay of document 01, over slices: reads a text, runs the queue as it tells, and writes what is to be printed. `specs/Replay.antt` says
 // what that is, as a function of the text.
+#![tactic(auto)]
+
 ghost use Rattle.std.specs.Prelude.{◌≡◌, true, false, cond, ◌&&◌, List, ℕ, ◌+◌, ◌≤◌, ◌^◌, length, replicate};
 ghost use Rattle.virtio.specs.Layout.{need_two, need_pool};
 ghost use Rattle.virtio.specs.Memory.{Memory};

@@ -1,7 +1,8 @@
 // Reads a replay from standard input, and writes what it prints to standard output.
 #![tactic(auto)]
 
-ghost use Rattle.std.specs.Prelude.{◌≡◌, ◌≤◌, length, take};
+ghost use Rattle.std.specs.Prelude.{◌≡◌, ◌≤◌, OnOk, length, take};
+ghost use Rattle.std.specs.Io.KnownBytes.{Appends};
 ghost use Rattle.console.specs.Counts.{IsPrefixLen};
 ghost use Rattle.replay.specs.Replay.{transcript};
 ghost use Rattle.replay.specs.Length.{longest};
@@ -36,6 +37,7 @@ fn answer<W: Write, E: Write>(
     out: &mut [u8],
 ) -> io::Result<()>
     requires { longest ≤ length out.old }
+    ensures { OnOk result (Appends (W.contents to.old) (W.contents to.new) (transcript src.now)) }
 {
     let said = whole(src, out);
     let written = to.write_all(&out[..said]);

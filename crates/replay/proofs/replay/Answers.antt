@@ -1,0 +1,16 @@
+-- `replay::replay` meets its contract: a text above 32,768 bytes prints bad=0, and any other is replayed.
+-- Assumes nothing.
+use mathlib.Core.List.{List, []}
+use Prim.Native.Nat.{ℕ}
+use native.Mathlib.Omega.{arith}
+use Rattle.replay.specs.Header.{written_none, is_written, too_long, short}
+use Rattle.replay.proofs.replay.Goals as goal
+
+pub returns-then-src-gt32768 : goal.returns-then-src-gt32768
+returns-then-src-gt32768 c =
+    let before : List ℕ = c.args.out.now in
+    is_written (too_long c.args.src.now (omega (arith, c.if-src-gt32768.true))) (c.put_field.ensures before [] (written_none before))
+
+pub returns : goal.returns
+returns c =
+    is_written (short c.args.src.now (omega (arith, c.if-src-gt32768.false))) c.replayed.ensures
