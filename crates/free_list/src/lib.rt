@@ -82,7 +82,7 @@ pub fn free_walk(n: u16, next: &[u16], seen: &mut [u64], k: u16, i: u16) -> bool
 {
     let mut more = k;
     let mut d = i;
-    while 0 < more {
+    'runs: while 0 < more {
         let run = first_run(n, next, more, d);
         if !mark_run(seen, run.low as usize, run.count as usize) {
             return false;

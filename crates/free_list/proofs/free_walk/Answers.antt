@@ -13,15 +13,15 @@ use Rattle.views.specs.Views.{at}
 use borrow.Author.Rules.{rules}
 use Rattle.free_list.proofs.free_walk.Goals as goal
 
-pub loop-more-init : goal.loop-more-init
-loop-more-init c = (omega arith, refl, λ after r f. f)
+pub runs-init : goal.runs-init
+runs-init c = (omega arith, refl, λ after r f. f)
 
 pub mark_run-requires : goal.mark_run-requires
 mark_run-requires c = let r = c.first_run-run.ensures in record { c_nonzero = (r.some, r.share); marks = (let below = r.below in omega arith) }
 
 pub returns-then-not-mark_run : goal.returns-then-not-mark_run
 returns-then-not-mark_run c =
-    let l = c.loop-more in
+    let l = c.runs in
     let p = c.first_run-run in
     let m = c.mark_run in
     let last : List Bool = marks_of m.new.seen in
@@ -33,7 +33,7 @@ bounds-next-last c = let r = c.first_run-run.ensures in let below = r.last_below
 
 pub returns-then-n-x : goal.returns-then-n-x
 returns-then-n-x c =
-    let l = c.loop-more in
+    let l = c.runs in
     let p = c.first_run-run in
     let last : List Bool = marks_of c.mark_run.new.seen in
     l.invariant.2 last false (bounded_out c.args.n (at c.args.next.now) l.more l.d p.result.low p.result.count p.result.last p.ensures (marks_of l.seen) last c.if-n-x.true)
@@ -41,12 +41,12 @@ returns-then-n-x c =
 pub overflow_sub-more : goal.overflow_sub-more
 overflow_sub-more c = let r = c.first_run-run.ensures in let few = r.few in omega arith
 
-pub loop-more-smaller : goal.loop-more-smaller
-loop-more-smaller c = let r = c.first_run-run.ensures in let few = r.few in let some = r.some in omega arith
+pub runs-smaller : goal.runs-smaller
+runs-smaller c = let r = c.first_run-run.ensures in let few = r.few in let some = r.some in omega arith
 
-pub loop-more-preserved : goal.loop-more-preserved
-loop-more-preserved c =
-    let l = c.loop-more in
+pub runs-preserved : goal.runs-preserved
+runs-preserved c =
+    let l = c.runs in
     let p = c.first_run-run in
     let m = c.mark_run in
     let seen : List Bool = marks_of m.new.seen in
@@ -59,5 +59,5 @@ loop-more-preserved c =
 
 pub returns : goal.returns
 returns c =
-    let l = c.loop-more in
+    let l = c.runs in
     l.invariant.2 (marks_of l.seen) true (bounded_none c.args.n (at c.args.next.now) (marks_of l.seen) l.more l.d (omega arith))

@@ -13,9 +13,9 @@ use Rattle.views.specs.Views.{at}
 use borrow.Author.Rules.{rules}
 use Rattle.free_list.proofs.free_walk.Given as goal
 
-abbrev pub invariant-loop-more : goal.invariant-loop-more
-invariant-loop-more l =
+abbrev pub invariant-runs : goal.invariant-runs
+invariant-runs l =
     (l.d < l.n) × (length l.seen ≡ length l.initial.seen) × ((after : List Bool) (r : Bool) → Bounded l.n (at l.next) (marks_of l.seen) after l.more l.d r → Bounded l.n (at l.next) (marks_of l.initial.seen) after l.k l.i r)
 
-abbrev pub decreases-loop-more : goal.decreases-loop-more
-decreases-loop-more l = l.more
+abbrev pub decreases-runs : goal.decreases-runs
+decreases-runs l = l.more
