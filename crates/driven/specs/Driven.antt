@@ -23,7 +23,7 @@ use Rattle.record.specs.Asked.{ask_of, made_of, answer_of}
 use Rattle.mixing.specs.Device.{Wiring, Device, Act, Result, Worked, acting, begin, work, fresh_device}
 use Rattle.mixing.specs.Mix as mix
 use Rattle.mixing.specs.Demand.{Whole, in_turn, start, wiring}
-use Rattle.mixing.specs.Proof.{demand3}
+use Rattle.mixing.proofs.Proved.{demand3}
 use Rattle.mixing.specs.Orders.{calls_in, acts_in, AllWhole, own_calls, own_acts, explained_whole}
 use Rattle.driven.specs.declared.Event.{Event}
 use Rattle.driven.specs.Named.{Drive, called, stepped, event_of, ruled, drive_of}

@@ -1,7 +1,6 @@
--- Mixings of a queue of size 2, computed: where each ends, and the order of whole calls and whole acts that explains it, that of last events. They try the statement before
--- it is proved, and show that it is not empty: calls and acts of each kind are open across steps of the other side.
-use Rattle.std.specs.Prelude.{◌≡◌, refl, true, false, List, [], ◌∷◌, ◌++◌, ℕ, replicate}
-use Rattle.std.proofs.Common.{sym, ◌∙◌}
+-- Mixings of a queue of size 2: where each ends, and the order of whole calls and whole acts that explains it, that of last events. That this is so is
+-- computed in proofs/Mixings. They try the statement, and show that it is not empty: calls and acts of each kind are open across steps of the other side.
+use Rattle.std.specs.Prelude.{true, false, List, [], ◌∷◌, ◌++◌, ℕ, replicate}
 use Rattle.virtio.specs.declared.Desc.{Desc}
 use Rattle.virtio.specs.declared.Buffer.{Buffer}
 use Rattle.virtio.specs.Desc.{no_desc, no_buffer}
@@ -10,12 +9,11 @@ use Rattle.rules.specs.declared.Modes.{Modes}
 use Rattle.rules.specs.declared.Open.TheVariants.{Idle}
 use Rattle.rules.specs.Record.{Queue, Counts}
 use Rattle.rules.specs.New.{Ask, new}
-use Rattle.rules.specs.Computing.{computing}
 use Rattle.mixing.specs.Device.{take_next, complete, set_used_flags, set_avail_event, see_avail_flags, see_used_event}
-use Rattle.mixing.specs.Device.{none_available, not_taken, completed, stored, took, saw, Device, resting, without}
+use Rattle.mixing.specs.Device.{none_available, not_taken, completed, stored, took, saw, Device, resting}
 use Rattle.mixing.specs.Mix.{add, pop_used_call, peek_used_call, can_pop_call, should_notify_call, available_desc_call, set_dev_notify_call}
-use Rattle.mixing.specs.Mix.{Event, call, step, act, tick, Answer, Trace, event, trace}
-use Rattle.mixing.specs.Demand.{Whole, whole_call, whole_act, in_turn, start, wiring, Explained}
+use Rattle.mixing.specs.Mix.{Event, call, step, act, tick, Answer, Trace, trace}
+use Rattle.mixing.specs.Demand.{Whole, whole_call, whole_act, in_turn, start, wiring}
 
 -- ---- the queue, and how an end is written
 
@@ -34,7 +32,7 @@ lent = record { one = replicate 42 0; two = replicate 22 0; pool = replicate 64 
 abbrev pub run : Modes → List Event → Trace
 run o es = trace (wiring (ask o)) es (start (new (ask o) lent))
 
-abbrev turns : Modes → List Whole → Trace
+abbrev pub turns : Modes → List Whole → Trace
 turns o ws = run o (in_turn 2 ws)
 
 abbrev pub input : Buffer
@@ -82,7 +80,7 @@ between_order =
     ∷ whole_call (pop_used_call 0 (input ∷ output ∷ [])) ∷ whole_act (complete 0 20) ∷ whole_act (set_used_flags 1)
     ∷ whole_call (pop_used_call 0 (input ∷ output ∷ [])) ∷ []
 
-abbrev between_end : Trace
+abbrev pub between_end : Trace
 between_end = record {
   queue = rests direct 0 (counted 0 0 1 1) (link 0 0 1 1) (link 0 0 2 0) 0 0 (no_buffer ∷ no_buffer ∷ no_buffer ∷ no_buffer ∷ []);
   memory = record {
@@ -97,17 +95,6 @@ between_end = record {
   acts = take_next ∷ take_next ∷ complete 0 20 ∷ set_used_flags 1 ∷ [];
   results = none_available ∷ took 0 (input ∷ output ∷ []) ∷ completed ∷ stored ∷ [];
 }
-
-between_mixed : run direct between ≡ between_end
-unfolding computing event trace without
-between_mixed = refl
-
-between_in_turn : turns direct between_order ≡ between_end
-unfolding computing event trace without
-between_in_turn = refl
-
-pub between_explained : Explained (ask direct) lent between
-between_explained = record { order = between_order; same_trace = between_in_turn ∙ sym between_mixed }
 
 -- ---- reordered
 
@@ -125,7 +112,7 @@ reordered_order =
     ∷ whole_act (complete 1 5) ∷ whole_call peek_used_call ∷ whole_call (pop_used_call 0 (input ∷ [])) ∷ whole_act (complete 0 0)
     ∷ whole_call (pop_used_call 1 (output ∷ [])) ∷ whole_call available_desc_call ∷ []
 
-abbrev reordered_end : Trace
+abbrev pub reordered_end : Trace
 reordered_end = record {
   queue = rests direct 0 (counted 1 1 2 1) (link 4096 10 0 1) (link 0 0 2 0) 1 0 (no_buffer ∷ no_buffer ∷ no_buffer ∷ no_buffer ∷ []);
   memory = record {
@@ -140,17 +127,6 @@ reordered_end = record {
   acts = take_next ∷ take_next ∷ take_next ∷ complete 1 5 ∷ complete 0 0 ∷ [];
   results = none_available ∷ took 0 (input ∷ []) ∷ took 1 (output ∷ []) ∷ completed ∷ completed ∷ [];
 }
-
-reordered_mixed : run direct reordered ≡ reordered_end
-unfolding computing event trace without
-reordered_mixed = refl
-
-reordered_in_turn : turns direct reordered_order ≡ reordered_end
-unfolding computing event trace without
-reordered_in_turn = refl
-
-pub reordered_explained : Explained (ask direct) lent reordered
-reordered_explained = record { order = reordered_order; same_trace = reordered_in_turn ∙ sym reordered_mixed }
 
 -- ---- listed
 
@@ -169,7 +145,7 @@ listed_order =
     ∷ whole_call should_notify_call ∷ whole_act (complete 0 7) ∷ whole_act see_used_event ∷ whole_act see_used_event
     ∷ whole_call (pop_used_call 0 (input ∷ output ∷ [])) ∷ whole_act see_used_event ∷ whole_call can_pop_call ∷ []
 
-abbrev listed_end : Trace
+abbrev pub listed_end : Trace
 listed_end = record {
   queue = rests lists_events 8192 (counted 1 0 2 1) (link 0 0 4 0) (link 4096 10 0 0) 0 1 (no_buffer ∷ no_buffer ∷ no_buffer ∷ no_buffer ∷ []);
   memory = record {
@@ -185,17 +161,6 @@ listed_end = record {
   results = none_available ∷ took 0 (input ∷ output ∷ []) ∷ stored ∷ completed ∷ saw 0 ∷ saw 0 ∷ saw 1 ∷ [];
 }
 
-listed_mixed : run lists_events listed ≡ listed_end
-unfolding computing event trace without
-listed_mixed = refl
-
-listed_in_turn : turns lists_events listed_order ≡ listed_end
-unfolding computing event trace without
-listed_in_turn = refl
-
-pub listed_explained : Explained (ask lists_events) lent listed
-listed_explained = record { order = listed_order; same_trace = listed_in_turn ∙ sym listed_mixed }
-
 -- ---- flagged
 
 -- The driver turns notifications off and on, between the device's looks at the flags; a complete of a chain that was not taken is no act; an act while
@@ -210,7 +175,7 @@ flagged_order =
     whole_act see_avail_flags ∷ whole_call (set_dev_notify_call false) ∷ whole_act see_avail_flags ∷ whole_act (complete 0 1)
     ∷ whole_call (add (input ∷ [])) ∷ whole_call (set_dev_notify_call true) ∷ whole_act take_next ∷ whole_act see_avail_flags ∷ []
 
-abbrev flagged_end : Trace
+abbrev pub flagged_end : Trace
 flagged_end = record {
   queue = rests direct 0 (counted 1 1 1 0) (link 4096 10 0 1) (link 0 0 0 0) 1 0 (no_buffer ∷ no_buffer ∷ no_buffer ∷ no_buffer ∷ []);
   memory = record {
@@ -225,14 +190,3 @@ flagged_end = record {
   acts = see_avail_flags ∷ see_avail_flags ∷ complete 0 1 ∷ take_next ∷ see_avail_flags ∷ [];
   results = saw 0 ∷ saw 1 ∷ not_taken ∷ took 0 (input ∷ []) ∷ saw 0 ∷ [];
 }
-
-flagged_mixed : run direct flagged ≡ flagged_end
-unfolding computing event trace without
-flagged_mixed = refl
-
-flagged_in_turn : turns direct flagged_order ≡ flagged_end
-unfolding computing event trace without
-flagged_in_turn = refl
-
-pub flagged_explained : Explained (ask direct) lent flagged
-flagged_explained = record { order = flagged_order; same_trace = flagged_in_turn ∙ sym flagged_mixed }

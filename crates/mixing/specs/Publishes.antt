@@ -5,7 +5,6 @@ use Rattle.std.proofs.Common.{sym, subst, ◌∙◌, arith, le-ltb, ltb-true, lt
 use Rattle.lists.specs.Tests.{by_test, by_eq}
 use Rattle.lists.specs.Index.{after, after_counts}
 use Rattle.lists.specs.Pick.{one_if}
-use Rattle.lists.specs.Once.{mem}
 use Rattle.virtio.specs.Memory.{Memory, Place, desc, avail_idx, avail_ring, used_idx, used_id, entry}
 use Rattle.virtio.specs.Sizes.{Has}
 use Rattle.rules.specs.declared.Open.TheVariants.{Idle, Add}

@@ -22,7 +22,7 @@ use Rattle.laws.specs.FreeLaws.{hop_low}
 use Rattle.laws.specs.StepKeeps.{tally_most, power_most}
 use Rattle.mixing.specs.Device.{Doing, resting, take_idx, take_head, take_chain, complete_id, complete_len, complete_idx, Device}
 use Rattle.mixing.specs.Fields.{num, dsc, Changed, num_kept, dsc_kept}
-use Rattle.mixing.specs.Facts.{adding, taken, offered, is_out, Notes, InChain, TableOk, ListOk, Led, Shown, Blank, Progress, DriverAt, DeviceAt, Facts}
+use Rattle.mixing.specs.Facts.{adding, offered, is_out, Notes, InChain, TableOk, ListOk, Led, Shown, Blank, Progress, DriverAt, DeviceAt, Facts}
 
 -- ---- numbers
 

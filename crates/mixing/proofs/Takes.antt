@@ -20,7 +20,7 @@ use Rattle.mixing.specs.Device.{Wiring, take_next, none_available, took, in_tabl
 use Rattle.mixing.specs.Device.{Worked, acting, doing, goes, comes, takes, reads, work}
 use Rattle.mixing.specs.Mix.{act, tick, Trace, works, event, trace}
 use Rattle.mixing.specs.Demand.{whole_act, steps_of}
-use Rattle.mixing.specs.Whole.{tick_idle, tick_open}
+use Rattle.mixing.proofs.Whole.{tick_idle, tick_open}
 
 -- every indirect table that descriptors refer to starts at an entry of the pool: its offset there is a multiple of 16
 unfoldable pub aligned : ℕ → List Desc → Bool

@@ -21,13 +21,13 @@ use Rattle.laws.specs.Published.{add_publishes, Stands, add_stands}
 use Rattle.mixing.specs.Device.{Wiring, take_next, acting}
 use Rattle.mixing.specs.Mix.{add, Event, Trace, drives, trace}
 use Rattle.mixing.specs.Demand.{whole_call, whole_act, steps_of, in_turn, start, wiring}
-use Rattle.mixing.specs.Whole.{trace_append}
-use Rattle.mixing.specs.WholeCalls.{whole_call_is}
+use Rattle.mixing.proofs.Whole.{trace_append}
+use Rattle.mixing.proofs.WholeCalls.{whole_call_is}
 use Rattle.mixing.specs.Facts.{Inv}
-use Rattle.mixing.specs.Kept.{sane}
-use Rattle.mixing.specs.Start.{start_inv}
-use Rattle.mixing.specs.Ends.{trace_keep}
-use Rattle.mixing.specs.Takes.{aligned, lists_aligned, Finds, beginning, ending, takes_chain}
+use Rattle.mixing.proofs.Kept.{sane}
+use Rattle.mixing.proofs.Start.{start_inv}
+use Rattle.mixing.proofs.Ends.{trace_keep}
+use Rattle.mixing.proofs.Takes.{aligned, lists_aligned, Finds, beginning, ending, takes_chain}
 
 -- ---- an add's chain is aligned
 

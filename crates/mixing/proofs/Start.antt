@@ -32,7 +32,7 @@ use Rattle.mixing.specs.Fields.{num}
 use Rattle.mixing.specs.Facts.{none, Notes, Facts, Inv}
 use Rattle.mixing.specs.Stages.{kind}
 use Rattle.mixing.specs.Turns.{Quiet}
-use Rattle.mixing.specs.Whole.{driver, device, sides}
+use Rattle.mixing.proofs.Whole.{driver, device, sides}
 
 -- ---- cleared bytes
 

@@ -13,9 +13,9 @@ use Rattle.laws.specs.Regions.{Shaped}
 use Rattle.laws.specs.StepsAlike.{move_shaped}
 use Rattle.mixing.specs.Device.{Wiring, Act, Doing, resting, take_idx, take_head, take_chain, complete_id, complete_len, complete_idx, Device, Worked, begin, work}
 use Rattle.mixing.specs.Mix.{Call, Event, call, step, act, tick, Trace, opening, further, drives, works, event}
-use Rattle.mixing.specs.Whole.{driver, device, busy, ticks_most, Sane, step_open, tick_open, step_idle, tick_idle}
+use Rattle.mixing.proofs.Whole.{driver, device, busy, ticks_most, Sane, step_open, tick_open, step_idle, tick_idle}
 use Rattle.mixing.specs.Facts.{Notes, DeviceAt, Facts, Inv}
-use Rattle.mixing.specs.DeviceKeeps.{wire, work_left, begin_left}
+use Rattle.mixing.proofs.DeviceKeeps.{wire, work_left, begin_left}
 use Rattle.mixing.specs.PopSteps.{move_left}
 use Rattle.mixing.specs.Opens.{opening_left}
 use Rattle.mixing.specs.Shaping.{opening_shaped}

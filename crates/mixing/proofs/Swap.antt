@@ -13,14 +13,14 @@ use Rattle.rules.specs.Calls.{step as step_of}
 use Rattle.mixing.specs.Device.{Wiring, Act, Device, Worked, acting, begin, work}
 use Rattle.mixing.specs.Mix.{Call, Event, call, step, act, tick, Trace, opening, further, drives, works, event}
 use Rattle.mixing.specs.Turns.{Swaps}
-use Rattle.mixing.specs.Whole.{Side, driver, device, driver≢device, whose, busy, sides, Sane, step_idle, tick_idle, call_busy_none, act_busy_none, step_open, tick_open}
+use Rattle.mixing.proofs.Whole.{Side, driver, device, driver≢device, whose, busy, sides, Sane, step_idle, tick_idle, call_busy_none, act_busy_none, step_open, tick_open}
 use Rattle.mixing.specs.Fields.{put}
 use Rattle.mixing.specs.Facts.{Notes, Facts, Inv}
-use Rattle.mixing.specs.Kept.{sane, wired, keeps}
+use Rattle.mixing.proofs.Kept.{sane, wired, keeps}
 use Rattle.mixing.specs.Seen.{Filled, step_filled, opening_filled}
-use Rattle.mixing.specs.SwapLoads.{over}
+use Rattle.mixing.proofs.SwapLoads.{over}
 use Rattle.mixing.specs.SwapStores.{onto, Given, move_onto, opening_onto}
-use Rattle.mixing.specs.DeviceDoes.{Does, sees, puts, work_does, begin_does}
+use Rattle.mixing.proofs.DeviceDoes.{Does, sees, puts, work_does, begin_does}
 
 -- ---- what a call does over the device's memory, and the device over the call's
 

@@ -15,8 +15,8 @@ use Rattle.mixing.specs.Mix.{add, pop_used_call, peek_used_call, can_pop_call, s
 use Rattle.mixing.specs.Mix.{Event, call, step, act, tick, Answer, Trace, event, trace}
 use Rattle.mixing.specs.Demand.{Whole, whole_call, whole_act, in_turn, start, wiring, WholeEnded, Explained}
 use Rattle.mixing.specs.Turns.{turns}
-use Rattle.mixing.specs.Whole.{by_last}
-use Rattle.mixing.specs.Proof.{by_last_events, demand3}
+use Rattle.mixing.proofs.Whole.{by_last}
+use Rattle.mixing.proofs.Proved.{by_last_events, demand3}
 use Rattle.mixing.specs.Mixings.{direct, lists_events, ask, lent, input, output, says, link, counted, rests, idle}
 use Rattle.mixing.specs.Mixings.{between, between_order, reordered, reordered_order, listed, listed_order, flagged, flagged_order}
 use Rattle.mixing.specs.Single as one

@@ -5,11 +5,11 @@ use Rattle.rules.specs.New.{Ask, new}
 use Rattle.mixing.specs.Mix.{Event, trace}
 use Rattle.mixing.specs.Demand.{in_turn, start, wiring, WholeEnded, Demand3}
 use Rattle.mixing.specs.Turns.{Quiet}
-use Rattle.mixing.specs.Whole.{driver, device, sides, by_last, whole_order}
+use Rattle.mixing.proofs.Whole.{driver, device, sides, by_last, whole_order}
 use Rattle.mixing.specs.Facts.{Inv}
-use Rattle.mixing.specs.Kept.{sane}
-use Rattle.mixing.specs.Swap.{queue_swaps}
-use Rattle.mixing.specs.Start.{start_inv, start_quiet}
+use Rattle.mixing.proofs.Kept.{sane}
+use Rattle.mixing.proofs.Swap.{queue_swaps}
+use Rattle.mixing.proofs.Start.{start_inv, start_quiet}
 
 -- THE THEOREM: the order of the operations' last events explains a mixing
 pub by_last_events : (a : Ask) (m : Memory) → (new a m).answer ≡ 0 → (es : List Event) → WholeEnded (trace (wiring a) es (start (new a m)))

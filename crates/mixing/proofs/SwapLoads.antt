@@ -17,7 +17,7 @@ use Rattle.mixing.specs.Device.{Wiring, take_next, complete, see_avail_flags, se
 use Rattle.mixing.specs.Fields.{num, dsc, num_kept, dsc_kept, unlike}
 use Rattle.mixing.specs.Facts.{Notes, InChain, offered, is_out, DeviceAt, Facts}
 use Rattle.mixing.specs.Shows.{next_differs, slot_low, chain_low, entry_low, staged_out, table_same, list_same, slot_same, idx_same, taken_slot}
-use Rattle.mixing.specs.DeviceKeeps.{wire}
+use Rattle.mixing.proofs.DeviceKeeps.{wire}
 use Rattle.mixing.specs.Seen.{Filled, still, fills, tells, offers}
 
 -- what an opening or a step comes to, over another memory

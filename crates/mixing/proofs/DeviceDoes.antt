@@ -14,9 +14,9 @@ use Rattle.mixing.specs.Fields.{put, put_num, unlike}
 use Rattle.mixing.specs.Facts.{Notes, DeviceAt, Facts}
 use Rattle.mixing.specs.Shows.{slot_low, last_slot, used_not_pool}
 use Rattle.mixing.specs.Adding.{no}
-use Rattle.mixing.specs.DeviceKeeps.{wire, element_blank}
+use Rattle.mixing.proofs.DeviceKeeps.{wire, element_blank}
 use Rattle.mixing.specs.Seen.{Filled, still}
-use Rattle.mixing.specs.SwapLoads.{over, idx_over, idx_self, head_over, taking_over, take_over, complete_over, flags_over, event_over}
+use Rattle.mixing.proofs.SwapLoads.{over, idx_over, idx_self, head_over, taking_over, take_over, complete_over, flags_over, event_over}
 use Rattle.mixing.specs.SwapStores.{Given, element, tells, gives}
 
 -- `works` over any memory: what it comes to over m, but for the memory

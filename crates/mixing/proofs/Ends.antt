@@ -8,12 +8,12 @@ use Rattle.rules.specs.New.{Ask, new}
 use Rattle.mixing.specs.Device.{Wiring}
 use Rattle.mixing.specs.Mix.{Event, call, step, act, tick, Trace, event, trace}
 use Rattle.mixing.specs.Demand.{Whole, whole_call, whole_act, steps_of, start, wiring, WholeEnded}
-use Rattle.mixing.specs.Whole.{driver, device, driver≢device, busy, sides, finished, ticks_close, events_trace, trace_append}
+use Rattle.mixing.proofs.Whole.{driver, device, driver≢device, busy, sides, finished, ticks_close, events_trace, trace_append}
 use Rattle.mixing.specs.Facts.{Inv}
-use Rattle.mixing.specs.Kept.{keeps, sane}
-use Rattle.mixing.specs.Swap.{queue_swaps}
+use Rattle.mixing.proofs.Kept.{keeps, sane}
+use Rattle.mixing.proofs.Swap.{queue_swaps}
 use Rattle.mixing.specs.Turns.{events_keep}
-use Rattle.mixing.specs.Start.{start_inv}
+use Rattle.mixing.proofs.Start.{start_inv}
 
 module _ (w : Wiring) where
   pub trace_keep : (es : List Event) (t : Trace) → Inv w t → Inv w (trace w es t)
