@@ -1,18 +1,15 @@
 -- FROM RULES TO CODE, for demand 3. A run of the code (`Ran`) is events of the driver and of the device one after the other on the same bytes. That a run goes
--- on by what `driven::drive` does is that function's contract (`MakesEvent`). A run leaves the trace of the mixing of its events; so some order of whole calls
--- and whole acts leaves the same, and that is the contract of `driven::start`.
-use Rattle.std.specs.Prelude.{◌≡◌, Bool, ℕ, ◌+◌}
-use Rattle.std.proofs.Math.Path.{refl, ap}
-use Rattle.std.proofs.Common.{sym, ap₂, subst, ◌∙◌}
-use Rattle.std.proofs.Math.Bool.{true, false, cond}
+-- on by what `driven::drive` does is that function's contract (`MakesEvent`). A run leaves the trace of the mixing of its events (proofs/Driven); so some order of
+-- whole calls and whole acts leaves the same, and that is the contract of `driven::start`.
+use Rattle.std.specs.Prelude.{◌≡◌, ℕ, ◌+◌}
+use Rattle.std.proofs.Common.{sym, ap₂, ◌∙◌}
+use Rattle.std.proofs.Math.Bool.{false, cond}
 use mathlib.Core.List.{List, [], ◌∷◌, ◌++◌}
-use borrow.Author.Tests.{eqb-true}
 use Rattle.std.proofs.Math.Dec.{eqb}
-use Rattle.virtio.specs.declared.Buffer.{Buffer}
 use Rattle.virtio.specs.Memory.{Memory}
 use Rattle.rules.specs.Record as model
 use Rattle.rules.specs.Record.{is_open}
-use Rattle.rules.specs.Answer.{Outcome, Busy}
+use Rattle.rules.specs.Answer.{Busy}
 use Rattle.rules.specs.New as rule
 use Rattle.record.specs.declared.Queue.{Queue}
 use Rattle.record.specs.declared.Answer.{Answer}
@@ -22,12 +19,9 @@ use Rattle.record.specs.Abs.{abs}
 use Rattle.record.specs.Asked.{ask_of, made_of, answer_of}
 use Rattle.mixing.specs.Device.{Wiring, Device, Act, Result, Worked, acting, begin, work, fresh_device}
 use Rattle.mixing.specs.Mix as mix
-use Rattle.mixing.specs.Demand.{Whole, in_turn, start, wiring}
-use Rattle.mixing.proofs.Proved.{demand3}
-use Rattle.mixing.specs.Orders.{calls_in, acts_in, AllWhole, own_calls, own_acts, explained_whole}
-use Rattle.driven.specs.declared.Event.{Event}
-use Rattle.driven.specs.Named.{Drive, called, stepped, event_of, ruled, drive_of}
-use Rattle.driven.specs.Unaltered.{Unaltered, busy_unaltered, idle_unaltered}
+use Rattle.mixing.specs.Demand.{Whole, in_turn, wiring}
+use Rattle.mixing.specs.Orders.{calls_in, acts_in, AllWhole}
+use Rattle.driven.specs.Named.{Drive, called, stepped, event_of, ruled}
 
 -- A run of the code: the struct, the bytes, the device; and what each side did and got so far, with the steps of the call opened last, as in a trace.
 pub record State : Type 0 where
@@ -122,7 +116,7 @@ pub data Ran (w : Wiring) : List mix.Event → State → State → Type 0 where
   next : (e : mix.Event) (es : List mix.Event) (s t u : State) → Makes w s e t → Ran w es t u → Ran w (e ∷ es) s u
 
 -- a run goes on by one event
-ran_on : (w : Wiring) (es : List mix.Event) (s t u : State) (e : mix.Event) → Ran w es s t → Makes w t e u → Ran w (es ++ (e ∷ [])) s u
+pub ran_on : (w : Wiring) (es : List mix.Event) (s t u : State) (e : mix.Event) → Ran w es s t → Makes w t e u → Ran w (es ++ (e ∷ [])) s u
 ran_on w _ _ _ u e (none s) h = next e [] s u u h (none u)
 ran_on w _ _ _ v e (next x es s t u m r) h = next x (es ++ (e ∷ [])) s t v m (ran_on w es t u v e r h)
 
@@ -143,60 +137,8 @@ pub record MakesEvent (d : Drive) (q : Queue) (m : Memory) (r : Answer) (m' : Me
       → Ran w (es ++ (event_of d ∷ [])) o (after d r m' s)
 
 module _ (d : Drive) (q : Queue) (m : Memory) (r : Answer) (m' : Memory) (e : answer_of r m' ≡ ruled d (abs q) m) where
-  there : (w : Wiring) (s : State) → s.queue ≡ q → s.memory ≡ m → Makes w s (event_of d) (after d r m' s)
+  pub there : (w : Wiring) (s : State) → s.queue ≡ q → s.memory ≡ m → Makes w s (event_of d) (after d r m' s)
   there w s f g = drives d r m' (e ∙ ap₂ (λ x y. ruled d (abs x) y) (sym f) (sym g))
-
-  makes_event : MakesEvent d q m r m'
-  makes_event = record { as_ruled = e; goes_on = λ w es o s h f g. ran_on w es o s (after d r m' s) (event_of d) h (there w s f g) }
-
--- the event that a match found
-pub makes_found : (bs : List Buffer) (q : Queue) (m : Memory) (r : Answer) (m' : Memory) {x y : Event} → x ≡ y
-    → answer_of r m' ≡ ruled (drive_of y bs) (abs q) m → MakesEvent (drive_of x bs) q m r m'
-makes_found bs q m r m' {x} {y} e p = makes_event (drive_of x bs) q m r m' (p ∙ ap (λ z. ruled (drive_of z bs) (abs q) m) (sym e))
-
--- ---- an event in code is the event of the rules
-
-trace_either : (b : Bool) (x y : State) → trace_of (cond b x y) ≡ cond b (trace_of x) (trace_of y)
-trace_either true x y = refl
-trace_either false x y = refl
-
-module _ (w : Wiring) (s : State) (r : Answer) (m : Memory) where
-  uncounted_is : Unaltered (abs s.queue) s.memory (answer_of r m) → trace_of (uncounted r m s) ≡ trace_of s
-  uncounted_is u = ap₂ (λ x y. standing x y s) u.same_queue u.same_memory
-
-  drives_is : (d : Drive) → answer_of r m ≡ ruled d (abs s.queue) s.memory → trace_of (after d r m s) ≡ mix.event w (event_of d) (trace_of s)
-  unfolding mix.event
-  drives_is (called c) e = go (eqb r.answer Busy) refl ∙ ap (λ o. mix.called c o (trace_of s)) e
-    where
-      go : (b : Bool) → eqb r.answer Busy ≡ b
-          → trace_of (cond b (uncounted r m s) (drove (c ∷ []) r.steps r m s)) ≡ cond b (trace_of s) (mix.drives (c ∷ []) (answer_of r m) (trace_of s))
-      go true z =
-          uncounted_is
-          (subst (Unaltered (abs s.queue) s.memory) (sym e)
-          (busy_unaltered (abs s.queue) s.memory c (sym (ap (λ (x : Outcome). x.answer) e) ∙ eqb-true r.answer Busy z)))
-      go false z = refl
-  drives_is stepped e =
-      go (is_open s.queue.core.call) refl
-      ∙ ap (λ o. cond (is_open s.queue.core.call) (mix.drives [] (mix.further s.made o) (trace_of s)) (trace_of s)) e
-    where
-      go : (b : Bool) → is_open s.queue.core.call ≡ b
-          → trace_of (cond b (drove [] (s.made + r.steps) r m s) (uncounted r m s))
-          ≡ cond b (mix.drives [] (mix.further s.made (answer_of r m)) (trace_of s)) (trace_of s)
-      go true z = refl
-      go false z =
-          uncounted_is (subst (Unaltered (abs s.queue) s.memory) (sym e) (idle_unaltered (abs s.queue) s.memory z))
-
-event_is : (w : Wiring) (s t : State) (e : mix.Event) → Makes w s e t → trace_of t ≡ mix.event w e (trace_of s)
-unfolding mix.event
-event_is w s _ _ (drives d r m e) = drives_is w s r m d e
-event_is w s _ _ (acts a) = trace_either (acting s.device.doing) s (worked (a ∷ []) (begin w a s.device s.memory) s)
-event_is w s _ _ ticks = trace_either (acting s.device.doing) (worked [] (work w s.device.doing s.device s.memory) s) s
-
--- THE STEP FROM RULES TO CODE
-pub ran_is_mixing : (w : Wiring) (es : List mix.Event) (s u : State) → Ran w es s u → trace_of u ≡ mix.trace w es (trace_of s)
-unfolding mix.trace
-ran_is_mixing w _ _ _ (none s) = refl
-ran_is_mixing w _ _ _ (next e es s t u h r) = ran_is_mixing w es t u r ∙ ap (mix.trace w es) (event_is w s t e h)
 
 -- ---- demand 3, of the code
 
@@ -230,30 +172,8 @@ CodeDemand3 a r m =
     → is_open u.queue.core.call ≡ false → acting u.device.doing ≡ false
     → Explains (wiring (ask_of a)) a.n (begun r m) u
 
-pub code_demand3 : (a : Ask) (r : Made) (m m' : Memory) → made_of r m' ≡ rule.new (ask_of a) m → CodeDemand3 a r m'
-code_demand3 a r m m' e z es u h c d =
-    let b : trace_of (begun r m') ≡ start (rule.new (ask_of a) m) = ap start e in
-    let t : trace_of u ≡ mix.trace (wiring (ask_of a)) es (start (rule.new (ask_of a) m)) = ran_is_mixing (wiring (ask_of a)) es (begun r m') u h ∙ ap (mix.trace (wiring (ask_of a)) es) b in
-    let f : (rule.new (ask_of a) m).answer ≡ 0 = sym (ap (λ (y : rule.Made). y.answer) e) ∙ z in
-    let x = demand3 (ask_of a) m f es (record {
-      no_call = sym (ap (λ (y : mix.Trace). is_open y.queue.call) t) ∙ c;
-      no_act = sym (ap (λ (y : mix.Trace). acting y.device.doing) t) ∙ d;
-    }) in
-    let k : mix.trace (wiring (ask_of a)) (in_turn a.n x.order) (trace_of (begun r m')) ≡ trace_of u = ap (mix.trace (wiring (ask_of a)) (in_turn a.n x.order)) b ∙ x.same_trace ∙ sym t in
-    record {
-      order = x.order;
-      same_trace = k;
-      in_code = λ v g. ran_is_mixing (wiring (ask_of a)) (in_turn a.n x.order) (begun r m') v g ∙ k;
-      calls = own_calls (ask_of a) m f es x ∙ sym (ap (λ (y : mix.Trace). y.calls) t);
-      acts = own_acts (ask_of a) m f es x ∙ sym (ap (λ (y : mix.Trace). y.acts) t);
-      whole = subst (AllWhole (wiring (ask_of a)) x.order) (sym b) (explained_whole (ask_of a) m f es x);
-    }
-
 -- THE CONTRACT of `driven::start`: the queue is the one that new makes, a run begins there, and demand 3 holds of all that follows
 pub record Starts (a : Ask) (m : Memory) (r : Made) (m' : Memory) : Type 0 where
   pub as_ruled : made_of r m' ≡ rule.new (ask_of a) m
   pub a_run : Ran (wiring (ask_of a)) [] (begun r m') (begun r m')
   pub demand : CodeDemand3 a r m'
-
-pub starts : (a : Ask) (m : Memory) (r : Made) (m' : Memory) → made_of r m' ≡ rule.new (ask_of a) m → Starts a m r m'
-starts a m r m' e = record { as_ruled = e; a_run = none (begun r m'); demand = code_demand3 a r m m' e }

@@ -1,6 +1,5 @@
 -- `driven::drive` meets its contract: each event is the method of its name.
-use borrow.Author.Rules.{rules}
-use Rattle.driven.specs.Driven.{makes_found}
+use Rattle.driven.proofs.Makes.{makes_found}
 use Rattle.driven.proofs.drive.Goals as goal
 
 pub returns-in-Add : goal.returns-in-Add

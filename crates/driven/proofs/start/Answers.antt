@@ -1,6 +1,5 @@
 -- `driven::start` is the method `new`, whose contract is all that demand 3 asks of a made queue.
-use borrow.Author.Rules.{rules}
-use Rattle.driven.specs.Driven.{starts}
+use Rattle.driven.proofs.Driven.{starts}
 use Rattle.driven.proofs.start.Goals as goal
 
 pub returns : goal.returns
