@@ -63,11 +63,11 @@ pub returns-then-n-h : goal.returns-then-n-h
 returns-then-n-h c =
     let g = c.heads in
     elim c.heads-test.branch [
-      else-heads-test w ↦
-        rw (w.left-is, w.ended-is) (found_all c.args.n c.args.used c.args.free c.args.next.now c.args.flags.now c.args.noted.now (marks_of g.seen) g.left g.ended g.h g.invariant.2 (omega arith))
-    | then-heads-test+then-left-m w ↦ absurd (omega arith)
-    | then-heads-test+else-left-m+then-loop-m-test+then-n-x w ↦ absurd (omega arith)
-    | then-heads-test+else-left-m+then-loop-m-test+else-n-x+then-not-mark w ↦ absurd (omega arith)
+      | else-heads-test w ↦
+          rw (w.left-is, w.ended-is) (found_all c.args.n c.args.used c.args.free c.args.next.now c.args.flags.now c.args.noted.now (marks_of g.seen) g.left g.ended g.h g.invariant.2 (omega arith))
+      | then-heads-test+then-left-m w ↦ absurd (omega arith)
+      | then-heads-test+else-left-m+then-loop-m-test+then-n-x w ↦ absurd (omega arith)
+      | then-heads-test+else-left-m+then-loop-m-test+else-n-x+then-not-mark w ↦ absurd (omega arith)
     ]
 
 pub returns-else-n-h : goal.returns-else-n-h
@@ -75,15 +75,15 @@ returns-else-n-h c =
     let g = c.heads in
     let no : Known c.args.n (at c.args.next.now) (names c.args.n c.args.used c.args.free c.args.next.now c.args.noted.now) false =
     elim c.heads-test.branch [
-      else-heads-test w ↦ absurd (omega arith)
-    | then-heads-test+then-left-m w ↦
-        too_long c.args.n c.args.used c.args.free c.args.next.now c.args.flags.now c.args.noted.now (marks_of g.seen) g.left g.ended g.h g.invariant.2 (omega arith) w.if-left-m.true
-    | then-heads-test+else-left-m+then-loop-m-test+then-n-x w ↦
-        let l = w.loop-m in
-        leads_out c.args.n c.args.used c.args.free c.args.next.now c.args.flags.now c.args.noted.now (marks_of l.seen) l.left l.ended g.h l.m l.j l.invariant.3 w.loop-m-test.true w.if-n-x.true
-    | then-heads-test+else-left-m+then-loop-m-test+else-n-x+then-not-mark w ↦
-        let l = w.loop-m in
-        met_before c.args.n c.args.used c.args.free c.args.next.now c.args.flags.now c.args.noted.now (marks_of l.seen) l.left l.ended g.h l.m l.j l.invariant.3 w.loop-m-test.true
-        (not-false (get_or (marks_of l.seen) l.j false) (sym w.mark.ensures.0 ∙ w.if-not-mark.true))
+      | else-heads-test w ↦ absurd (omega arith)
+      | then-heads-test+then-left-m w ↦
+          too_long c.args.n c.args.used c.args.free c.args.next.now c.args.flags.now c.args.noted.now (marks_of g.seen) g.left g.ended g.h g.invariant.2 (omega arith) w.if-left-m.true
+      | then-heads-test+else-left-m+then-loop-m-test+then-n-x w ↦
+          let l = w.loop-m in
+          leads_out c.args.n c.args.used c.args.free c.args.next.now c.args.flags.now c.args.noted.now (marks_of l.seen) l.left l.ended g.h l.m l.j l.invariant.3 w.loop-m-test.true w.if-n-x.true
+      | then-heads-test+else-left-m+then-loop-m-test+else-n-x+then-not-mark w ↦
+          let l = w.loop-m in
+          met_before c.args.n c.args.used c.args.free c.args.next.now c.args.flags.now c.args.noted.now (marks_of l.seen) l.left l.ended g.h l.m l.j l.invariant.3 w.loop-m-test.true
+          (not-false (get_or (marks_of l.seen) l.j false) (sym w.mark.ensures.0 ∙ w.if-not-mark.true))
     ] in
     rw (lt-leb c.args.n g.h c.if-n-h.false) (found_no c.args.n c.args.used c.args.free c.args.next.now c.args.flags.now c.args.noted.now c.heads-test.ended no)

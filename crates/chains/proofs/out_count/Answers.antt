@@ -32,14 +32,14 @@ loop-h-preserved c =
     let less : n - h - 1 ≡ n - (h + 1) = omega arith in
     let rest : tally p (n - h - 1) (h + 1) ≡ tally p (n - (h + 1)) (h + 1) = ap (λ m. tally p m (h + 1)) less in
     elim c.if-noted-h-ne0.branch [
-      then-noted-h-ne0 w ↦
-        let yes : p h ≡ true = rw (within, ne_eqb (at noted h) 0 w.if-noted-h-ne0.true) in
-        let one : tally p (n - h) h ≡ 1 + tally p (n - h - 1) (h + 1) = tally_next p (n - h) h (omega arith) yes in
-        (omega arith, omega arith, omega arith)
-    | else-noted-h-ne0 w ↦
-        let no : p h ≡ false = rw (within, eq-eqb (at noted h) 0 w.if-noted-h-ne0.false) in
-        let none : tally p (n - h) h ≡ tally p (n - h - 1) (h + 1) = tally_skip p (n - h) h (omega arith) no in
-        (omega arith, omega arith, omega arith)
+      | then-noted-h-ne0 w ↦
+          let yes : p h ≡ true = rw (within, ne_eqb (at noted h) 0 w.if-noted-h-ne0.true) in
+          let one : tally p (n - h) h ≡ 1 + tally p (n - h - 1) (h + 1) = tally_next p (n - h) h (omega arith) yes in
+          (omega arith, omega arith, omega arith)
+      | else-noted-h-ne0 w ↦
+          let no : p h ≡ false = rw (within, eq-eqb (at noted h) 0 w.if-noted-h-ne0.false) in
+          let none : tally p (n - h) h ≡ tally p (n - h - 1) (h + 1) = tally_skip p (n - h) h (omega arith) no in
+          (omega arith, omega arith, omega arith)
     ]
 
 pub returns : goal.returns
