@@ -1,7 +1,6 @@
 -- `chains::links` meets its contract: one word is marks enough, and none of them is set.
 use native.Mathlib.Omega.{arith}
 use Rattle.lists.specs.PickLaws.{get_d_same_lem}
-use borrow.Author.Rules.{rules}
 use Rattle.chains.proofs.links.Goals as goal
 
 pub links_in-requires : goal.links_in-requires

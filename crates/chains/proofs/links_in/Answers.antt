@@ -1,18 +1,15 @@
 -- `chains::links_in` meets its contract: at each loop's test, what is asked of all is what is asked of what is still to be met, with the marks set so far
 -- (Links AtHead, InChain). It is left at a repeat, at a next that leads out and at a chain too long, where the answer is known to be no.
-use mathlib.Core.Logic.{⊎_elim}
-use mathlib.Core.Path.{◌≡◌, refl, sym, ap, ◌∙◌, subst}
+use mathlib.Core.Path.{◌≡◌, refl, sym, ◌∙◌, subst}
 use mathlib.Core.Bool.{true, false}
-use Prim.Native.Nat.{ℕ, ◌-◌, ◌*◌, ◌≤◌, ◌<◌}
+use Prim.Native.Nat.{ℕ, ◌-◌}
 use native.Mathlib.Omega.{arith}
 use borrow.Author.Tests.{lt-leb, not-true, not-false}
-use lib.Dec.{eqb}
-use lib.ListN.{length, get_or}
+use lib.ListN.{get_or}
 use Rattle.lists.specs.Asked.{Bounded, Known}
 use Rattle.lists.specs.Marks.{marks_of}
 use Rattle.views.specs.Views.{at}
-use Rattle.chains.specs.Links.{Found, AtHead, InChain, names, found_no, free_bad, free_good, found_all, too_long, chain_entered, chain_left, leads_out, met_before, chain_on}
-use borrow.Author.Rules.{rules}
+use Rattle.chains.specs.Links.{names, found_no, free_bad, free_good, found_all, too_long, chain_entered, chain_left, leads_out, met_before, chain_on}
 use Rattle.chains.proofs.links_in.Goals as goal
 use Rattle.chains.proofs.links_in.Goals.{else-heads-test, then-heads-test+then-left-m, then-heads-test+else-left-m+then-loop-m-test+then-n-x, then-heads-test+else-left-m+then-loop-m-test+else-n-x+then-not-mark}
 

@@ -1,18 +1,10 @@
 -- `chains::links_in` meets its contract: at each loop's test, what is asked of all is what is asked of what is still to be met, with the marks set so far
 -- (Links AtHead, InChain). It is left at a repeat, at a next that leads out and at a chain too long, where the answer is known to be no.
-use mathlib.Core.Logic.{⊎_elim}
-use mathlib.Core.Path.{◌≡◌, refl, sym, ap, ◌∙◌, subst}
-use mathlib.Core.Bool.{true, false}
-use Prim.Native.Nat.{ℕ, ◌-◌, ◌*◌, ◌≤◌, ◌<◌}
-use native.Mathlib.Omega.{arith}
-use borrow.Author.Tests.{lt-leb, not-true, not-false}
-use lib.Dec.{eqb}
-use lib.ListN.{length, get_or}
-use Rattle.lists.specs.Asked.{Bounded, Known}
+use mathlib.Core.Path.{◌≡◌}
+use Prim.Native.Nat.{◌-◌, ◌*◌, ◌≤◌, ◌<◌}
+use lib.ListN.{length}
 use Rattle.lists.specs.Marks.{marks_of}
-use Rattle.views.specs.Views.{at}
-use Rattle.chains.specs.Links.{Found, AtHead, InChain, names, found_no, free_bad, free_good, found_all, too_long, chain_entered, chain_left, leads_out, met_before, chain_on}
-use borrow.Author.Rules.{rules}
+use Rattle.chains.specs.Links.{AtHead, InChain}
 use Rattle.chains.proofs.links_in.Given as goal
 
 abbrev pub invariant-loop-m : goal.invariant-loop-m

@@ -1,15 +1,11 @@
 -- `chains::nexts_below` meets its contract: what is asked of all nexts is what is asked of those from `i` on.
 use mathlib.Core.Path.{◌≡◌, sym, ap, ◌∙◌}
 use mathlib.Core.Bool.{Bool, true, false}
-use mathlib.Core.List.{List}
-use Prim.Native.Nat.{ℕ, ◌+◌, ◌-◌, ◌≤◌}
+use Prim.Native.Nat.{ℕ, ◌+◌, ◌-◌}
 use native.Mathlib.Omega.{arith}
-use borrow.Author.Rules.{rules}
 use borrow.Author.Tests.{lt-ltb, le-ltb}
-use lib.Dec.{ltb}
 use Rattle.lists.specs.Pick.{every}
 use Rattle.lists.specs.PickLaws.{every_next, every_bad, every_none}
-use Rattle.views.specs.Views.{at}
 use Rattle.chains.proofs.nexts_below.Invariants.{low}
 use Rattle.chains.proofs.nexts_below.Goals as goal
 

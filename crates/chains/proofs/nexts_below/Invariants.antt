@@ -1,14 +1,10 @@
 -- `chains::nexts_below` meets its contract: what is asked of all nexts is what is asked of those from `i` on.
-use mathlib.Core.Path.{◌≡◌, sym, ap, ◌∙◌}
-use mathlib.Core.Bool.{Bool, true, false}
+use mathlib.Core.Path.{◌≡◌}
+use mathlib.Core.Bool.{Bool}
 use mathlib.Core.List.{List}
-use Prim.Native.Nat.{ℕ, ◌+◌, ◌-◌, ◌≤◌}
-use native.Mathlib.Omega.{arith}
-use borrow.Author.Rules.{rules}
-use borrow.Author.Tests.{lt-ltb, le-ltb}
+use Prim.Native.Nat.{ℕ, ◌-◌, ◌≤◌}
 use lib.Dec.{ltb}
 use Rattle.lists.specs.Pick.{every}
-use Rattle.lists.specs.PickLaws.{every_next, every_bad, every_none}
 use Rattle.views.specs.Views.{at}
 use Rattle.chains.proofs.nexts_below.Given as goal
 

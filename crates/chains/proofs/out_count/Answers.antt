@@ -1,11 +1,9 @@
 -- `chains::out_count` meets its contract: the chains counted so far, and those still to be counted from `h` on, are all of them.
-use mathlib.Core.Logic.{⊎_elim}
 use mathlib.Core.Path.{◌≡◌, ap}
 use mathlib.Core.Bool.{Bool, true, false}
 use mathlib.Core.List.{List}
-use Prim.Native.Nat.{ℕ, ◌+◌, ◌-◌, ◌≤◌}
+use Prim.Native.Nat.{ℕ, ◌+◌, ◌-◌}
 use native.Mathlib.Omega.{arith}
-use borrow.Author.Rules.{rules}
 use borrow.Author.Tests.{lt-ltb, eq-eqb, ne_eqb}
 use lib.Dec.{ltb}
 use Rattle.lists.specs.Pick.{tally}

@@ -1,16 +1,8 @@
 -- `chains::out_count` meets its contract: the chains counted so far, and those still to be counted from `h` on, are all of them.
-use mathlib.Core.Logic.{⊎_elim}
-use mathlib.Core.Path.{◌≡◌, ap}
-use mathlib.Core.Bool.{Bool, true, false}
-use mathlib.Core.List.{List}
-use Prim.Native.Nat.{ℕ, ◌+◌, ◌-◌, ◌≤◌}
-use native.Mathlib.Omega.{arith}
-use borrow.Author.Rules.{rules}
-use borrow.Author.Tests.{lt-ltb, eq-eqb, ne_eqb}
-use lib.Dec.{ltb}
+use mathlib.Core.Path.{◌≡◌}
+use Prim.Native.Nat.{◌+◌, ◌-◌, ◌≤◌}
 use Rattle.lists.specs.Pick.{tally}
-use Rattle.lists.specs.PickLaws.{tally_next, tally_skip, tally_none}
-use Rattle.views.specs.Views.{at, heads}
+use Rattle.views.specs.Views.{heads}
 use Rattle.chains.proofs.out_count.Given as goal
 
 abbrev pub invariant-loop-h : goal.invariant-loop-h

@@ -1,6 +1,5 @@
 -- `chains::still_ends` meets its contract: by whether more are to come.
 use borrow.Author.Tests.{lt-ltb, le-ltb}
-use borrow.Author.Rules.{rules}
 use Rattle.chains.proofs.still_ends.Goals as goal
 
 pub returns-then-ended : goal.returns-then-ended

@@ -1,11 +1,8 @@
 -- `fields::load` meets its contract. The loop goes down: v is the field of the k - i bytes from at + i on.
 -- Assumes nothing.
-use Prim.Native.Nat.{ℕ, ◌+◌, ◌-◌, ◌^◌, ◌≤◌, ◌<◌}
+use Prim.Native.Nat.{◌+◌, ◌-◌, ◌^◌, ◌≤◌, ◌<◌}
 use mathlib.Core.Path.{◌≡◌}
-use native.Mathlib.Omega.{arith}
-use native.Mathlib.Nat.{pow-le-pow_right, sub_self}
-use borrow.Author.Rules.{rules}
-use Rattle.lists.specs.Bytes.{get_le, get_next, get_none, pow_next}
+use Rattle.lists.specs.Bytes.{get_le}
 use Rattle.fields.proofs.load.Given as goal
 
 abbrev pub invariant-loop-i : goal.invariant-loop-i

@@ -1,6 +1,5 @@
 -- `fields::load_desc` meets its contract: each field of the descriptor is what its load ensures, at the place that `desc_at` reads.
 -- Assumes nothing.
-use borrow.Author.Rules.{rules}
 use Rattle.virtio.specs.Desc.{desc_at}
 use Rattle.fields.proofs.load_desc.Goals as goal
 

@@ -1,12 +1,11 @@
 -- `fields::store` meets its contract. The loop goes up: what is left to do is to put w in the k - i bytes from at + i on.
 -- Assumes nothing.
-use Prim.Native.Nat.{◌+◌, ◌-◌, ◌≤◌}
-use mathlib.Core.Path.{◌≡◌, refl, ◌∙◌, sym}
+use Prim.Native.Nat.{◌+◌, ◌-◌}
+use mathlib.Core.Path.{refl, ◌∙◌, sym}
 use native.Mathlib.Omega.{arith}
 use native.Mathlib.Nat.{sub-zero, add-zero}
-use borrow.Author.Rules.{rules}
-use lib.ListN.{length, length-set}
-use Rattle.lists.specs.Bytes.{put_le, put_next, put_none}
+use lib.ListN.{length-set}
+use Rattle.lists.specs.Bytes.{put_next, put_none}
 use Rattle.fields.proofs.store.Goals as goal
 
 pub loop-i-init : goal.loop-i-init

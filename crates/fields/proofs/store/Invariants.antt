@@ -1,12 +1,9 @@
 -- `fields::store` meets its contract. The loop goes up: what is left to do is to put w in the k - i bytes from at + i on.
 -- Assumes nothing.
 use Prim.Native.Nat.{◌+◌, ◌-◌, ◌≤◌}
-use mathlib.Core.Path.{◌≡◌, refl, ◌∙◌, sym}
-use native.Mathlib.Omega.{arith}
-use native.Mathlib.Nat.{sub-zero, add-zero}
-use borrow.Author.Rules.{rules}
-use lib.ListN.{length, length-set}
-use Rattle.lists.specs.Bytes.{put_le, put_next, put_none}
+use mathlib.Core.Path.{◌≡◌}
+use lib.ListN.{length}
+use Rattle.lists.specs.Bytes.{put_le}
 use Rattle.fields.proofs.store.Given as goal
 
 abbrev pub invariant-loop-i : goal.invariant-loop-i

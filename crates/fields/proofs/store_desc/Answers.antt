@@ -1,6 +1,5 @@
 -- `fields::store_desc` meets its contract: the four stores ensure the four nested stores of `put_desc`.
 -- Assumes nothing.
-use borrow.Author.Rules.{rules}
 use Rattle.virtio.specs.Desc.{put_desc}
 use Rattle.fields.proofs.store_desc.Goals as goal
 

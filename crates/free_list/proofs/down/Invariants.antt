@@ -1,8 +1,6 @@
 -- `free_list::down` meets its contract. The loop's invariant: each of the i numbers from d on down links to the one before it.
-use Prim.Native.Nat.{ℕ, ◌-◌, ◌≤◌}
-use native.Mathlib.Omega.{arith}
-use borrow.Author.Tests.{eqb-true}
-use Rattle.lists.specs.Runs.{Falls, falls_none, falls_one}
+use Prim.Native.Nat.{◌-◌, ◌≤◌}
+use Rattle.lists.specs.Runs.{Falls}
 use Rattle.views.specs.Views.{at}
 use Rattle.free_list.proofs.down.Given as goal
 

@@ -2,7 +2,6 @@
 use native.Mathlib.Omega.{arith}
 use Rattle.lists.specs.Runs.{begins_up, begins_down}
 use Rattle.views.specs.Views.{at}
-use borrow.Author.Rules.{rules}
 use Rattle.free_list.proofs.first_run.Goals as goal
 
 pub down-c-requires : goal.down-c-requires

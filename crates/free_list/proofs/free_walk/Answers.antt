@@ -1,16 +1,13 @@
 -- `free_list::free_walk` meets its contract. The loop's invariant: whatever is known of the walk still to come is known of the whole walk.
-use mathlib.Core.Path.{◌≡◌, refl, ◌∙◌, subst}
+use mathlib.Core.Path.{refl, ◌∙◌, subst}
 use mathlib.Core.Bool.{Bool, true, false}
 use mathlib.Core.List.{List}
-use Prim.Native.Nat.{◌-◌, ◌<◌}
 use native.Mathlib.Omega.{arith}
 use borrow.Author.Tests.{not-true, not-false}
-use lib.ListN.{length}
-use Rattle.lists.specs.Asked.{Bounded, bounded_none, bounded_on, bounded_stop, bounded_out}
+use Rattle.lists.specs.Asked.{bounded_none, bounded_on, bounded_stop, bounded_out}
 use Rattle.lists.specs.Marks.{marks_of}
 use Rattle.lists.specs.Visited.{MarkedRun}
 use Rattle.views.specs.Views.{at}
-use borrow.Author.Rules.{rules}
 use Rattle.free_list.proofs.free_walk.Goals as goal
 
 pub runs-init : goal.runs-init

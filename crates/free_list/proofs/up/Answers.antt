@@ -1,8 +1,8 @@
 -- `free_list::up` meets its contract. The loop's invariant: each of the i numbers from d on links to the one after it.
-use Prim.Native.Nat.{ℕ, ◌+◌, ◌-◌, ◌≤◌}
+use Prim.Native.Nat.{ℕ, ◌+◌}
 use native.Mathlib.Omega.{arith}
 use borrow.Author.Tests.{eqb-true}
-use Rattle.lists.specs.Runs.{Rises, rises_none, rises_one}
+use Rattle.lists.specs.Runs.{rises_none, rises_one}
 use Rattle.views.specs.Views.{at}
 use Rattle.free_list.proofs.up.Goals as goal
 

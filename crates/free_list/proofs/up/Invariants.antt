@@ -1,8 +1,6 @@
 -- `free_list::up` meets its contract. The loop's invariant: each of the i numbers from d on links to the one after it.
-use Prim.Native.Nat.{ℕ, ◌+◌, ◌-◌, ◌≤◌}
-use native.Mathlib.Omega.{arith}
-use borrow.Author.Tests.{eqb-true}
-use Rattle.lists.specs.Runs.{Rises, rises_none, rises_one}
+use Prim.Native.Nat.{◌-◌, ◌≤◌}
+use Rattle.lists.specs.Runs.{Rises}
 use Rattle.views.specs.Views.{at}
 use Rattle.free_list.proofs.up.Given as goal
 

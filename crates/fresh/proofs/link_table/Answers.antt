@@ -1,14 +1,12 @@
 -- `fresh::link_table` meets its contract. The loop goes up: what is left to do is to store the descriptors from i on.
 -- Assumes nothing.
 use mathlib.Core.Path.{◌≡◌, refl, sym, ap, ◌∙◌}
-use mathlib.Core.List.{map}
-use Prim.Native.Nat.{ℕ, ◌-◌, ◌*◌, ◌≤◌}
+use Prim.Native.Nat.{ℕ, ◌*◌}
 use native.Mathlib.Omega.{arith}
 use native.Mathlib.Nat.{sub-zero}
-use borrow.Author.Rules.{rules}
 use lib.ListN.{length}
 use Rattle.virtio.specs.Desc.{put_desc_length}
-use Rattle.rules.specs.New.{linked, linking, nexts_from, put_descs}
+use Rattle.rules.specs.New.{linking}
 use Rattle.fresh.specs.Nexts.{lastly, link_next, link_none}
 use Rattle.fresh.proofs.link_table.Goals as goal
 

@@ -1,7 +1,6 @@
 -- `layout::need_one` meets its contract: each arm's value is the line of `need_one` for that layout, which the branch's test picks.
 -- Assumes nothing.
 use native.Mathlib.Omega.{arith}
-use borrow.Author.Rules.{rules}
 use Rattle.virtio.specs.Layout.{need_one}
 use Rattle.layout.proofs.need_one.Goals as goal
 

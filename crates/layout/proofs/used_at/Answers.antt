@@ -1,7 +1,6 @@
 -- `layout::used_at` meets its contract: each arm's value is the line of `used_at` for that layout, which the branch's test picks.
 -- Assumes nothing.
 use native.Mathlib.Omega.{arith}
-use borrow.Author.Rules.{rules}
 use Rattle.virtio.specs.Layout.{used_at}
 use Rattle.layout.proofs.used_at.Goals as goal
 

@@ -3,7 +3,6 @@
 use mathlib.Core.Path.{◌≡◌}
 use Prim.Native.Nat.{ℕ, ◌+◌, ◌-◌}
 use native.Mathlib.Omega.{arith}
-use borrow.Author.Rules.{rules}
 use Rattle.virtio.specs.Layout.{used_size}
 use Rattle.virtio.specs.Sizes.{used_small, used_in_one, used_in_two}
 use Rattle.layout.proofs.used_ring.Goals as goal

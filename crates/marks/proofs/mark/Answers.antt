@@ -7,7 +7,6 @@ use lib.Bits.{bit_and}
 use lib.ListN.{get_or}
 use Rattle.lists.specs.Digits.{ones, bit_made}
 use Rattle.lists.specs.MarkRuns.{one_new, one_again}
-use borrow.Author.Rules.{rules}
 use Rattle.marks.proofs.mark.Goals as goal
 
 pub returns-then-word-bit-eq0 : goal.returns-then-word-bit-eq0

@@ -7,7 +7,6 @@ use lib.Bits.{bit_and}
 use lib.ListN.{get_or}
 use Rattle.lists.specs.Digits.{ones}
 use Rattle.lists.specs.MarkRuns.{run_new, run_again}
-use borrow.Author.Rules.{rules}
 use Rattle.marks.proofs.mark_run.Goals as goal
 
 pub returns-then-word-bits-eq0 : goal.returns-then-word-bits-eq0

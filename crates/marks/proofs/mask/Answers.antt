@@ -4,7 +4,6 @@ use Prim.Native.Nat.{ℕ, ◌+◌, ◌-◌, ◌*◌, ◌%◌, ◌^◌, ◌≤◌
 use native.Mathlib.Omega.{arith}
 use lib.Pow.{pow_mono, pow_pos}
 use Rattle.lists.specs.Digits.{bit_made, ones_made}
-use borrow.Author.Rules.{rules}
 use Rattle.marks.proofs.mask.Goals as goal
 
 pub overflow_sub-result : goal.overflow_sub-result

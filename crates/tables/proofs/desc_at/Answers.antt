@@ -1,7 +1,6 @@
 -- `tables::desc_at` meets its contract: the words at i, as the tables have them.
 use native.Mathlib.Omega.{arith}
 use Rattle.tables.specs.Stores.{desc_load}
-use borrow.Author.Rules.{rules}
 use Rattle.tables.proofs.desc_at.Goals as goal
 
 pub returns : goal.returns

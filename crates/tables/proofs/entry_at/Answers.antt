@@ -1,7 +1,6 @@
 -- `tables::entry_at` meets its contract: the words at j, as the tables have them.
 use native.Mathlib.Omega.{arith}
 use Rattle.tables.specs.Stores.{entry_load}
-use borrow.Author.Rules.{rules}
 use Rattle.tables.proofs.entry_at.Goals as goal
 
 pub returns : goal.returns

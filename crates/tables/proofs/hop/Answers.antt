@@ -4,11 +4,7 @@ use mathlib.Core.Bool.{Bool}
 use mathlib.Core.List.{List, []}
 use Prim.Native.Nat.{ℕ, ◌-◌, ◌<◌}
 use native.Mathlib.Omega.{arith}
-use borrow.Author.Rules.{rules}
-use lib.ListN.{get_or}
 use Rattle.lists.specs.Walk.{hop, hop_turn, hop_none}
-use Rattle.virtio.specs.Desc.{no_desc}
-use Rattle.views.specs.Tables.{tables_of}
 use Rattle.tables.specs.Stores.{next_below}
 use Rattle.tables.proofs.hop.Invariants.{linked}
 use Rattle.tables.proofs.hop.Goals as goal

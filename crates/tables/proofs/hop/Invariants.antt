@@ -1,15 +1,12 @@
 -- `tables::hop` meets its contract: what is k links on from i is what is as many as are left on from where the loop stands.
-use mathlib.Core.Path.{◌≡◌, refl, sym, ap, ◌∙◌, subst}
+use mathlib.Core.Path.{◌≡◌}
 use mathlib.Core.Bool.{Bool}
-use mathlib.Core.List.{List, []}
-use Prim.Native.Nat.{ℕ, ◌-◌, ◌<◌}
-use native.Mathlib.Omega.{arith}
-use borrow.Author.Rules.{rules}
+use mathlib.Core.List.{List}
+use Prim.Native.Nat.{ℕ, ◌<◌}
 use lib.ListN.{get_or}
-use Rattle.lists.specs.Walk.{hop, hop_turn, hop_none}
+use Rattle.lists.specs.Walk.{hop}
 use Rattle.virtio.specs.Desc.{no_desc}
 use Rattle.views.specs.Tables.{tables_of}
-use Rattle.tables.specs.Stores.{next_below}
 use Rattle.tables.proofs.hop.Given as goal
 
 -- what descriptor j links to

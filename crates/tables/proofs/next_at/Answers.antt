@@ -1,7 +1,6 @@
 -- `tables::next_at` meets its contract: the word at i, as the tables have it.
 use native.Mathlib.Omega.{arith}
 use Rattle.tables.specs.Stores.{next_load}
-use borrow.Author.Rules.{rules}
 use Rattle.tables.proofs.next_at.Goals as goal
 
 pub returns : goal.returns

@@ -1,7 +1,6 @@
 -- `tables::noted_at` meets its contract: the word of h, as the tables have it.
 use native.Mathlib.Omega.{arith}
 use Rattle.tables.specs.Stores.{noted_load}
-use borrow.Author.Rules.{rules}
 use Rattle.tables.proofs.noted_at.Goals as goal
 
 pub returns : goal.returns

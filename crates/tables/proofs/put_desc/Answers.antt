@@ -3,7 +3,6 @@ use native.Mathlib.Omega.{arith}
 use Prim.Native.Nat.{◌+◌}
 use lib.ListN.{length-set}
 use Rattle.tables.specs.Stores.{desc_store}
-use borrow.Author.Rules.{rules}
 use Rattle.tables.proofs.put_desc.Goals as goal
 
 pub bounds-halves-at : goal.bounds-halves-at

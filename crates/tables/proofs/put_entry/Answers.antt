@@ -1,7 +1,6 @@
 -- `tables::put_entry` meets its contract: stores to the words at j, as the tables have them.
 use native.Mathlib.Omega.{arith}
 use Rattle.tables.specs.Stores.{entry_store}
-use borrow.Author.Rules.{rules}
 use Rattle.tables.proofs.put_entry.Goals as goal
 
 pub returns : goal.returns

@@ -1,7 +1,6 @@
 -- `tables::put_noted` meets its contract: a store to the word of h, as the tables have it.
 use native.Mathlib.Omega.{arith}
 use Rattle.tables.specs.Stores.{noted_store}
-use borrow.Author.Rules.{rules}
 use Rattle.tables.proofs.put_noted.Goals as goal
 
 pub returns : goal.returns

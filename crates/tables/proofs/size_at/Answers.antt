@@ -3,7 +3,6 @@ use lib.ListN.{get_or}
 use Rattle.virtio.specs.Desc.{no_desc}
 use Rattle.views.specs.Tables.{tables_of}
 use Rattle.tables.specs.Stores.{size_listed, size_noted}
-use borrow.Author.Rules.{rules}
 use Rattle.tables.proofs.size_at.Goals as goal
 
 pub returns-then-d-eq1 : goal.returns-then-d-eq1
