@@ -24,29 +24,24 @@
 --   Regions       steps keep the layout and the lengths of the regions
 --   Whole         add, pop and peek: closed, and the opening and its steps, however shared out among runs
 --   Popped        pop and peek in closed form
---   StepsExact    exactly how many it still takes on the memory that it finds, with nothing in between
+--   StepsExact    exactly how many it still takes on the memory that it finds, with nothing in between: the number
 --   PopFrees      a pop, and each of its steps, frees its token's chain or nothing
 -- Who writes what:
 --   Writers       a step makes exactly one access; it stores to the driver's fields and loads the device's, and no others
 -- What calls depend on, and what they change:
 --   Depends, CallDepends   what answers and records depend on, of shared memory: of a step and a run; of an opening and a whole call
 --   StepsAlike    the same of successive public steps, whatever becomes of the memory in between
---   Changes       which bytes an access and a step may change
---   CallChanges   which bytes runs and whole calls may change
+--   Changes       which bytes an access may change, and the places that an open call may store to
+--   CallChanges   which bytes a public step and set_dev_notify may change, and the places of an add
 --   Still         what leaves the memory as it is: openings, peek, and every refusal; and all lengths
---   UsedStays     no call changes region two or the used ring
 -- The owning queue:
 --   OwnIs         a record passes its test exactly where it is well formed in plain words: each token's buffer is out, alone and whole, or in hand
 --   OwnFree       what that says of the descriptors: with nothing held none is free, else just the held token's
---   OwnAdds       one buffer added by itself, and so the held one given back under its own token
---   OwnNew        owning new, refused, and made
---   OwnViews      a view lies inside its own token's buffer, and only a poll has one
---   OwnPoll       poll and release, exactly
---   OwnKeeps      every call leaves a good record good; no buffer is lost or doubled
---   OwnBetween    so does a poll between whose look and pop the device writes
---   OwnShown      what a poll shows is what is viewed afterwards
---   OwnDepends    what owning answers depend on, of memory and store; what becomes of the store
---   OwnChanges    which bytes of memory owning calls may change
+--   OwnAdds       one buffer added by itself
+--   OwnNew        owning new, refused, and what one that is not makes
+--   OwnViews      what the view of a poll is, and only a poll has one
+--   OwnPoll       poll and release: refused, nothing ready, number 4, and a buffer shown
+--   OwnKeeps      what passes through, and what it is that calls keep
 pub mod WellFormedIs
 pub mod Placed
 pub mod Held
@@ -84,7 +79,6 @@ pub mod StepsAlike
 pub mod Changes
 pub mod CallChanges
 pub mod Still
-pub mod UsedStays
 pub mod OwnIs
 pub mod OwnFree
 pub mod OwnAdds
@@ -92,7 +86,3 @@ pub mod OwnNew
 pub mod OwnViews
 pub mod OwnPoll
 pub mod OwnKeeps
-pub mod OwnBetween
-pub mod OwnShown
-pub mod OwnDepends
-pub mod OwnChanges

@@ -1,31 +1,26 @@
--- One buffer added by itself: what it leaves, in closed form; and so the held buffer of an owning record added again, under the token that it had.
-use Rattle.std.specs.Prelude.{◌≡◌, refl, true, false, not, cond, ◌&&◌, ◌||◌, List, [], ◌∷◌, ◌++◌, ℕ, ◌+◌, ◌*◌, ◌≤◌, ◌<◌, ltb, length}
-use Rattle.std.proofs.Common.{sym, ap₂, subst, ◌∙◌, inl, arith, le-ltb, ne_eqb, get_or-set_same}
+-- One buffer added by itself: what it leaves, in closed form.
+use Rattle.std.specs.Prelude.{◌≡◌, refl, true, false, not, cond, ◌&&◌, ◌||◌, List, [], ◌∷◌, ◌++◌, ℕ, ◌+◌, ◌≤◌, ◌<◌, ltb, length}
+use Rattle.std.proofs.Common.{sym, ap₂, ◌∙◌, arith, le-ltb, ne_eqb, get_or-set_same}
 use Rattle.std.proofs.Math.Path.{ap}
 use Rattle.std.proofs.Math.Bool.{and-false}
 use Rattle.lists.specs.Index.{after}
 use Rattle.lists.specs.PickLaws.{none_first}
-use Rattle.lists.specs.Tests.{by_eq}
 use Rattle.lists.specs.Walk.{walk}
 use Rattle.virtio.specs.declared.Buffer.{Buffer}
 use Rattle.virtio.specs.Memory.{Memory}
 use Rattle.virtio.specs.Chain.{in_order}
 use Rattle.rules.specs.declared.Open.TheVariants.{Idle}
-use Rattle.rules.specs.declared.Held.TheVariants.{Nothing}
 use Rattle.rules.specs.Record.{Queue, next_of, noted_of, free_list, buffers_of, is_open, with_call, with_avail}
 use Rattle.rules.specs.WellFormed.{no_empty, steps_of_add}
-use Rattle.rules.specs.Meaning.{Out, Based}
+use Rattle.rules.specs.Meaning.{Out}
 use Rattle.rules.specs.Answer.{Outcome}
 use Rattle.rules.specs.Calls.{fits, bad_list, full, add_tests, add_refusal, add_direct, add_indirect, add_opened, opened, add}
-use Rattle.rules.specs.Owning.{Owning, own_buffer, own_list}
 use Rattle.laws.specs.WellFormedIs.{means_well_formed, means_order}
 use Rattle.laws.specs.CallKeeps.{Good}
 use Rattle.laws.specs.Opening.{add_keeps}
 use Rattle.laws.specs.Regions.{still_fits, moves_fit, add_shaped}
 use Rattle.laws.specs.Whole.{add_is}
 use Rattle.laws.specs.Added.{published, add_done, add_takes, add_adds, add_others}
-use Rattle.laws.specs.OwnIs.{Away, InHand, OwnWell, OwnGood, own_means, means_own, other_away}
-use Rattle.laws.specs.OwnFree.{held_next, held_used}
 
 -- ---- nothing refuses it where a descriptor is free
 
@@ -153,58 +148,3 @@ module _ (q : Queue) (m : Memory) (b : Buffer) (g : Good q) (e : add_refusal q m
       ap (λ (x : Outcome). fits x.queue x.memory) (add_is q m (b ∷ []) e)
       ∙ moves_fit (q.n + 4) (opened (add_opened q (b ∷ [])) m)
       ∙ still_fits (add_opened q (b ∷ [])) q m m (add_shaped q (b ∷ [])) (record { one = refl; two = refl; pool = refl })
-
--- ---- the held buffer added again
-
-module _ (o : Owning) (g : OwnGood o) (m : Memory) (t : ℕ) (x : InHand o t) (f : fits o.queue m ≡ true) where
-  abbrev q : Queue
-  q = o.queue
-
-  w : OwnWell o
-  w = own_means o g.well
-
-  -- THE LAW: nothing refuses it
-  pub back_allowed : add_refusal o.queue m (own_list o t) ≡ 0
-  back_allowed =
-      one_allowed q m (own_buffer o.base o.size t) g.good w.idle f (held_used o w t x)
-      (λ z. let s : 1 ≤ o.size = w.some in omega arith)
-
-  made : AddedOne q (add q m (own_list o t)).queue (own_buffer o.base o.size t)
-  made = one_added_lem q m (own_buffer o.base o.size t) g.good back_allowed
-
-  -- THE LAW: it answers the token that the buffer had; its closed form
-  pub back_done : add o.queue m (own_list o t) ≡ one_outcome o.queue (own_buffer o.base o.size t) m t
-  back_done =
-      one_done q m (own_buffer o.base o.size t) g.good back_allowed
-      ∙ ap (one_outcome q (own_buffer o.base o.size t) m) (held_next o w t x)
-
-  -- the record with it back
-  abbrev p : Owning
-  p = record { queue = (add q m (own_list o t)).queue; base = o.base; size = o.size; held = Nothing }
-
-  own_away : Away p t
-  own_away =
-      let s : q.counts.free ≡ t = held_next o w t x in
-      record { out = subst (Out p.queue) s made.out; list = ap (buffers_of p.queue) (sym s) ∙ made.list }
-
-  others_away : (h : ℕ) → h < q.n → (h ≡ t → ⊥) → Away p h
-  others_away h b d =
-      let a : Away o h = other_away o w t x h b d in
-      record { out = made.others_out h a.out; list = made.others_list h a.out ∙ a.list }
-
-  back_well : OwnWell p
-  back_well =
-      let s : p.queue.n ≡ q.n = made.n in
-      record {
-        queue = made.good.well;
-        idle = made.idle;
-        based = subst (λ k. Based o.base (k * o.size)) (sym s) w.based;
-        some = w.some;
-        most = w.most;
-        tokens = λ h b. inl (by_eq h t (λ e. subst (Away p) (sym e) own_away) (λ d. others_away h (omega arith) d));
-        holding = λ k l e. absurd (let z : ◌≡◌ {A = ℕ} 0 1 = cc in omega arith);
-      }
-
-  -- THE LAW: the record with it back, and nothing held, is good, so that all tokens are out with their own buffers
-  pub back_good : OwnGood (record { queue = (add o.queue m (own_list o t)).queue; base = o.base; size = o.size; held = Nothing })
-  back_good = record { good = made.good; well = means_own p back_well }

@@ -107,11 +107,3 @@ module _ (o : Owning) (w : OwnWell o) where
   held_free t x =
       just_in q.n t (free_list q) free_below (hand_counted t x)
       (λ h b d. out_not_free q w.queue h (other_away o w t x h b d).out)
-
-  pub held_next : (t : ℕ) → InHand o t → q.counts.free ≡ t
-  held_next t x = (walk_first (next_of q) (free_count q) q.counts.free t [] (held_free t x)).0
-
-  pub held_used : (t : ℕ) → InHand o t → q.counts.used < q.n
-  held_used t x =
-      let l : 0 < free_count q = (walk_first (next_of q) (free_count q) q.counts.free t [] (held_free t x)).1 in
-      omega arith

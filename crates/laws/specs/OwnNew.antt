@@ -132,16 +132,10 @@ module _ (q : Queue) (base size : ℕ) (m : Memory) (s : List ℕ) where
   unfolding own_new
   new_refused d = ap (λ b. cond b (own_made q base size m s) (own_not_made refusal q m s)) (ne_eqb refusal 0 d)
 
-  -- one that is not does what new does, and answers 0; so it is refused exactly where it answers another number
+  -- one that is not does what new does
   pub new_goes : own_new_refusal q base size m s ≡ 0 → own_new q base size m s ≡ own_made q base size m s
   unfolding own_new
   new_goes e = ap (λ b. cond b (own_made q base size m s) (own_not_made refusal q m s)) (eq-eqb refusal 0 e)
-
-  pub new_answers : (own_new q base size m s).answer ≡ own_new_refusal q base size m s
-  new_answers =
-      by_eq refusal 0
-      (λ e. ap (λ r. r.answer) (new_goes e) ∙ sym e)
-      (λ d. ap (λ r. r.answer) (new_refused d))
 
   module _ (g : Good q) (e : own_new_refusal q base size m s ≡ 0) where
     none : NoneOf tests
@@ -201,7 +195,7 @@ module _ (q : Queue) (base size : ℕ) (m : Memory) (s : List ℕ) where
           holding = λ t l f. absurd (let z : ◌≡◌ {A = ℕ} 0 1 = cc in omega arith);
         }
 
-    made_owns : OwnMade q base size s (own_made q base size m s)
+    pub made_owns : OwnMade q base size s (own_made q base size m s)
     made_owns = record {
       value = refl;
       view = refl;
@@ -213,9 +207,3 @@ module _ (q : Queue) (base size : ℕ) (m : Memory) (s : List ℕ) where
       away = all_out;
       store = refl;
     }
-
-  -- THE LAW: from a good queue, a new that answers 0 makes a good record, with every token's buffer out and nothing held
-  pub new_owns : Good q → (own_new q base size m s).answer ≡ 0 → OwnMade q base size s (own_new q base size m s)
-  new_owns g e =
-      let f : refusal ≡ 0 = sym new_answers ∙ e in
-      subst (OwnMade q base size s) (sym (new_goes f)) (made_owns g f)

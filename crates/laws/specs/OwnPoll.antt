@@ -1,10 +1,9 @@
 -- Poll and release, exactly: each refusal, nothing ready, number 4, number 10, a buffer shown, and a buffer given back; and what each leaves
 -- in record and memory.
-use Rattle.std.specs.Prelude.{◌≡◌, refl, Bool, true, false, not, List, [], ◌∷◌, ℕ, ◌+◌, ◌*◌, ◌≤◌, ◌<◌, ltb, leb, eqb, length}
-use Rattle.std.proofs.Common.{sym, ap₂, subst, ◌∙◌, inl, inr, arith, lt-ltb, le-ltb, le-leb, eq-eqb, ne_eqb, eqb-true, ltb-true, ltb-false, leb-true, leb-false}
+use Rattle.std.specs.Prelude.{◌≡◌, refl, true, false, not, List, [], ◌∷◌, ℕ, ◌+◌, ◌*◌, ◌≤◌, ◌<◌, ltb, leb, eqb}
+use Rattle.std.proofs.Common.{sym, ap₂, subst, ◌∙◌, inl, inr, arith, lt-ltb, le-ltb, le-leb, eq-eqb, ne_eqb}
 use Rattle.std.proofs.Math.Path.{ap}
 use Rattle.std.proofs.Math.Bool.{cond}
-use Rattle.std.proofs.lemmas.Bool.{lt-leb, eqb-false}
 use Rattle.lists.specs.Pick.{◌when◌}
 use Rattle.lists.specs.PickLaws.{none_first}
 use Rattle.lists.specs.Tests.{by_eq, and_both}
@@ -26,8 +25,8 @@ use Rattle.laws.specs.Whole.{pop_is}
 use Rattle.laws.specs.Popped.{pop_stored, used_idx_of, used_id_of, used_len_of, pop_verdict, pop_freed, pop_passes}
 use Rattle.laws.specs.OwnIs.{Away, InHand, OwnWell, OwnGood, own_means, means_own, means_list, all_away}
 use Rattle.laws.specs.OwnFree.{away_one, away_plain}
-use Rattle.laws.specs.OwnAdds.{one_added, one_published, one_outcome, back_done, back_good}
-use Rattle.laws.specs.OwnViews.{ReleaseAllowed, poll_allowed, release_allowed, allowed_release}
+use Rattle.laws.specs.OwnAdds.{one_added, one_published}
+use Rattle.laws.specs.OwnViews.{poll_allowed}
 
 -- ---- the refusals, in their order: each alters nothing
 
@@ -67,12 +66,12 @@ module _ (o : Owning) (m : Memory) (s : List ℕ) where
   release_refused d =
       ap (λ b. cond b (released o o.held m s) (own_refused o (release_refusal o m s) m s)) (ne_eqb (release_refusal o m s) 0 d)
 
-  release_goes : release_refusal o m s ≡ 0 → release o m s ≡ released o o.held m s
+  pub release_goes : release_refusal o m s ≡ 0 → release o m s ≡ released o o.held m s
   unfolding release
   release_goes e =
       ap (λ b. cond b (released o o.held m s) (own_refused o (release_refusal o m s) m s)) (eq-eqb (release_refusal o m s) 0 e)
 
--- ---- release
+-- ---- a buffer given back
 
 -- the record and the memory with the buffer of token t added to the queue q
 abbrev pub given_back : Owning → ℕ → Queue → Queue
@@ -80,50 +79,6 @@ given_back o t q = one_added q (own_buffer o.base o.size t)
 
 abbrev pub republished : Owning → ℕ → Queue → Memory → Memory
 republished o t q m = one_published q (own_buffer o.base o.size t) m
-
-module _ (o : Owning) (m : Memory) (s : List ℕ) (g : OwnGood o) (e : release_refusal o m s ≡ 0) (t l : ℕ) (h : o.held ≡ Holds t l) where
-  hand : InHand o t
-  hand = (own_means o g.well).holding t l h
-
-  fit : fits o.queue m ≡ true
-  fit = (release_allowed o m s e).fit
-
-  -- THE LAW: a release that nothing refuses answers 0 and the held token, and adds that token's buffer again
-  pub release_done : release o m s ≡ record {
-    answer = 0;
-    value = t;
-    view = no_view;
-    owning = record { queue = given_back o t o.queue; base = o.base; size = o.size; held = Nothing };
-    memory = republished o t o.queue m;
-    store = s;
-  }
-  release_done =
-      release_goes o m s e
-      ∙ ap (λ x. released o x m s) h
-      ∙ ap (λ (p : Outcome). plainly o p.answer p.value p.queue Nothing p.memory s) (back_done o g m t hand fit)
-
-  -- THE LAWS: the record is good again, and the token out with its own buffer
-  pub release_good : OwnGood (release o m s).owning
-  release_good =
-      subst OwnGood
-      (ap (λ (p : Outcome). record { queue = p.queue; base = o.base; size = o.size; held = Nothing }) (back_done o g m t hand fit)
-      ∙ ap (λ (r : Owned). r.owning) (sym release_done))
-      (back_good o g m t hand fit)
-
-  pub release_away : Away (release o m s).owning t
-  release_away =
-      let p : Owning = (release o m s).owning in
-      let k : p.queue.n ≡ o.queue.n = ap (λ (r : Owned). r.owning.queue.n) release_done in
-      let b : t < o.queue.n = hand.below in
-      all_away p (own_means p release_good.well) (ap (λ (r : Owned). r.owning.held) release_done) t (omega arith)
-
--- THE LAW: a held buffer can always be given back: over memory and a store that do, release answers 0 and the held token
-pub release_answers : (o : Owning) (m : Memory) (s : List ℕ) → OwnGood o → fits o.queue m ≡ true → o.queue.n * o.size ≤ length s
-    → (t l : ℕ) → o.held ≡ Holds t l → ((release o m s).answer ≡ 0) × ((release o m s).value ≡ t)
-release_answers o m s g f r t l h =
-    let a : ReleaseAllowed o m s = record { well = g.well; fit = f; room = r; some = ap holds_none h } in
-    let e = release_done o m s g (allowed_release o m s a) t l h in
-    (ap (λ (x : Owned). x.answer) e, ap (λ (x : Owned). x.value) e)
 
 -- ---- poll
 
@@ -238,7 +193,7 @@ module _ (o : Owning) (m : Memory) (s : List ℕ) (e : poll_refusal o m s ≡ 0)
           pop_passes q m t (own_list o t) call_goes g.good d checked
           ∙ ap (λ k. pop_freed q m t (own_list o t) (3 + store_steps q k) (pop_stored (freed q t) k m)) stored_one
 
-      poll_pops : poll o m s ≡ poll_popped o taken t s
+      pub poll_pops : poll o m s ≡ poll_popped o taken t s
       poll_pops =
           poll_named_lem
           ∙ ap (λ c. cond c (poll_popped o (pop_used q m t (own_list o t)) t s) (own_refused o WrongToken m s)) (lt-ltb t q.n b)
@@ -247,7 +202,7 @@ module _ (o : Owning) (m : Memory) (s : List ℕ) (e : poll_refusal o m s ≡ 0)
       taken_good : Good (taken_out o m)
       taken_good = subst (λ (r : Outcome). Good r.queue) popped (pop_keeps q m t (own_list o t) g.good)
 
-      taken_fit : fits (taken_out o m) (taken_memory o m) ≡ true
+      pub taken_fit : fits (taken_out o m) (taken_memory o m) ≡ true
       taken_fit =
           ap (λ (r : Outcome). fits r.queue r.memory) (sym popped ∙ pop_is q m t (own_list o t) call_goes)
           ∙ moves_fit (q.n + 4) (opened (with_call q (PopIdx t (matches q t (own_list o t)))) m)
@@ -261,7 +216,7 @@ module _ (o : Owning) (m : Memory) (s : List ℕ) (e : poll_refusal o m s ≡ 0)
         not_adding : is_add q.call ≡ false
         not_adding = ap is_add w.idle
 
-        in_hand : (h k : ℕ) → h < q.n → p.held ≡ Holds h k → InHand p h
+        pub in_hand : (h k : ℕ) → h < q.n → p.held ≡ Holds h k → InHand p h
         in_hand h k c f =
             let x : h ≡ t = cc in
             let y : l ≡ k = cc in
@@ -291,11 +246,11 @@ module _ (o : Owning) (m : Memory) (s : List ℕ) (e : poll_refusal o m s ≡ 0)
           holding = λ h k f. in_hand h k (let x : h ≡ t = cc in let y : t < q.n = b in omega arith) f;
         }
 
-        held_good : OwnGood p
+        pub held_good : OwnGood p
         held_good = record { good = taken_good; well = means_own p held_well }
 
       -- the buffer added again at once
-      abbrev over : Owned
+      abbrev pub over : Owned
       over =
           let again : Outcome = add (taken_out o m) (taken_memory o m) (own_list o t) in
           plainly o OverLength 0 again.queue Nothing again.memory s
@@ -309,58 +264,3 @@ module _ (o : Owning) (m : Memory) (s : List ℕ) (e : poll_refusal o m s ≡ 0)
 
       pub poll_shows_good : poll_len o m ≤ o.size → OwnGood (poll o m s).owning
       poll_shows_good l = subst (λ (r : Owned). OwnGood r.owning) (sym (poll_shows l)) (held_good (poll_len o m) l)
-
-      -- that is as if it had been held with no byte shown, and released
-      none : 0 ≤ o.size
-      none = omega arith
-
-      again_done
-          : add (taken_out o m) (taken_memory o m) (own_list o t)
-          ≡ one_outcome (taken_out o m) (own_buffer o.base o.size t) (taken_memory o m) t
-      again_done = back_done (p 0 none) (held_good 0 none) (taken_memory o m) t (in_hand 0 none t 0 b refl) taken_fit
-
-      -- THE LAWS: a length above the size is 10 with no view, and the buffer is popped and added again under the same token
-      pub poll_over : o.size < poll_len o m → poll o m s ≡ poll_again o m s
-      poll_over l =
-          poll_pops
-          ∙ ap (λ c. cond c (poll_shown o m s) over)
-          (lt-leb (poll_len o m) o.size l)
-          ∙ ap (λ (r : Outcome). plainly o OverLength 0 r.queue Nothing r.memory s) again_done
-
-      pub poll_over_good : o.size < poll_len o m → OwnGood (poll o m s).owning
-      poll_over_good l =
-          subst OwnGood
-          (ap (λ (r : Outcome). record { queue = r.queue; base = o.base; size = o.size; held = Nothing }) again_done
-          ∙ ap (λ (r : Owned). r.owning) (sym (poll_over l)))
-          (back_good (p 0 none) (held_good 0 none) (taken_memory o m) t (in_hand 0 none t 0 b refl) taken_fit)
-
-      -- and is out again, whole
-      pub poll_over_away : o.size < poll_len o m → Away (poll o m s).owning (poll_named o m)
-      poll_over_away l =
-          let r : Owning = (poll o m s).owning in
-          let k : r.queue.n ≡ q.n = ap (λ (x : Owned). x.owning.queue.n) (poll_over l) in
-          let c : t < q.n = b in
-          all_away r (own_means r (poll_over_good l).well) (ap (λ (x : Owned). x.owning.held) (poll_over l)) t (omega arith)
-
--- ---- poll in one equation
-
-chosen : (b : Bool) (r x y : Owned) → (b ≡ true → r ≡ x) → (b ≡ false → r ≡ y) → r ≡ cond b x y
-chosen true r x y f g = f refl
-chosen false r x y f g = g refl
-
--- THE LAW of poll
-pub poll_closed : (o : Owning) (m : Memory) (s : List ℕ) → OwnGood o → poll o m s ≡ poll_end o m s
-poll_closed o m s g =
-    let q : Queue = o.queue in
-    chosen (eqb (poll_refusal o m s) 0) (poll o m s) _ _
-    (λ e. let r : poll_refusal o m s ≡ 0 = eqb-true (poll_refusal o m s) 0 e in
-    chosen (eqb (used_idx_of q m) q.counts.last) (poll o m s) _ _
-    (λ i. poll_nothing o m s r (eqb-true (used_idx_of q m) q.counts.last i))
-    (λ i. let d : (used_idx_of q m ≡ q.counts.last → ⊥) = eqb-false (used_idx_of q m) q.counts.last i in
-    chosen (ltb (poll_named o m) q.n) (poll o m s) _ _
-    (λ l. let b : poll_named o m < q.n = ltb-true (poll_named o m) q.n l in
-    chosen (leb (poll_len o m) o.size) (poll o m s) _ _
-    (λ v. poll_shows o m s r d g b (leb-true (poll_len o m) o.size v))
-    (λ v. poll_over o m s r d g b (leb-false (poll_len o m) o.size v)))
-    (λ l. poll_wrong o m s r d (ltb-false (poll_named o m) q.n l))))
-    (λ e. poll_refused o m s (eqb-false (poll_refusal o m s) 0 e))

@@ -13,10 +13,13 @@ use Rattle.rules.specs.New.{lends}
 use Rattle.rules.specs.Owning as rule
 use Rattle.laws.specs.CallKeeps.{Good}
 use Rattle.laws.specs.OwnIs.{OwnGood, none_broken}
-use Rattle.laws.specs.OwnNew.{OwnMade, new_answers, new_owns}
-use Rattle.laws.specs.OwnPoll.{release_refused, release_done}
-use Rattle.laws.specs.OwnKeeps.{Keeps, EveryOwned, OneEach, own_every_keeps, no_buffer_lost}
-use Rattle.laws.specs.OwnShown.{poll_viewed}
+use Rattle.laws.specs.OwnNew.{OwnMade}
+use Rattle.laws.proofs.OwnNew.{new_answers, new_owns}
+use Rattle.laws.specs.OwnPoll.{release_refused}
+use Rattle.laws.proofs.OwnPoll.{release_done}
+use Rattle.laws.specs.OwnKeeps.{Keeps, EveryOwned, OneEach}
+use Rattle.laws.proofs.OwnKeeps.{own_every_keeps, no_buffer_lost}
+use Rattle.laws.proofs.OwnShown.{poll_viewed}
 use Rattle.refusals.specs.Checked.{Indices}
 use Rattle.owns.specs.Refused.{own_well}
 use Rattle.record.specs.Abs.{abs, Arrays}

@@ -16,7 +16,8 @@ use Rattle.laws.specs.Popped.{used_idx_of, used_id_of, pop_verdict, pop_not_read
 use Rattle.laws.specs.OwnIs.{OwnGood}
 use Rattle.laws.specs.OwnViews.{allowed_poll}
 use Rattle.laws.specs.OwnPoll.{poll_named_lem}
-use Rattle.laws.specs.OwnKeeps.{Keeps, as_was, poll_keeps}
+use Rattle.laws.specs.OwnKeeps.{Keeps, as_was}
+use Rattle.laws.proofs.OwnKeeps.{poll_keeps}
 
 -- the answer r is a refusal's: a number that is not 0, value 0, no view, and record, memory and store as they were
 pub record Declined (o : Owning) (m : Memory) (s : List ℕ) (r : Owned) : Type 0 where

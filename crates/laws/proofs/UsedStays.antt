@@ -25,7 +25,8 @@ use Rattle.laws.specs.CallKeeps.{Good, move_keeps, open_pop_keeps}
 use Rattle.laws.specs.Opening.{open_add_keeps}
 use Rattle.laws.specs.Regions.{react_shaped}
 use Rattle.laws.specs.Writers.{Keeps, keeps_to_side}
-use Rattle.laws.specs.Changes.{Lies, Among, Clear, SameByte, SameLengths, publishing, event_places, adding_places, storing_places, access_changes, access_wide, step_stores}
+use Rattle.laws.specs.Changes.{Lies, Among, Clear, SameByte, SameLengths, publishing, event_places, adding_places, storing_places, access_changes, access_wide}
+use Rattle.laws.proofs.Changes.{step_stores}
 use Rattle.laws.specs.CallChanges.{moves_hold, unless_holds, whole_holds}
 use Rattle.laws.specs.Still.{EveryCall, every_call, lengths_stay}
 

@@ -20,16 +20,17 @@ use Rattle.rules.specs.Calls.{add_refusal, add, pop_used}
 use Rattle.rules.specs.Owning.{Owning, Owned, own_buffer, own_list, add_own, own_new_refusal, own_new, poll_refusal, poll, release_refusal, released, release}
 use Rattle.laws.specs.Changes.{Lies, Clear, SameByte, publishing, event_places, add_places, pop_places}
 use Rattle.laws.specs.CallKeeps.{Good, pop_keeps}
-use Rattle.laws.specs.CallChanges.{add_changes, pop_changes}
+use Rattle.laws.proofs.CallChanges.{add_changes, pop_changes}
 use Rattle.laws.specs.Opening.{add_keeps}
 use Rattle.laws.specs.Regions.{Shaped, add_shaped}
-use Rattle.laws.specs.UsedStays.{two_stays, used_ring_stays}
+use Rattle.laws.proofs.UsedStays.{two_stays, used_ring_stays}
 use Rattle.laws.specs.Added.{add_done}
 use Rattle.laws.specs.Whole.{add_refused}
 use Rattle.laws.specs.Popped.{used_idx_of}
 use Rattle.laws.specs.PopFrees.{Refuses, Frees, pop_frees_or_nothing}
 use Rattle.laws.specs.OwnIs.{Away, OwnGood, own_means, all_away}
-use Rattle.laws.specs.OwnFree.{away_one, away_plain, held_next}
+use Rattle.laws.specs.OwnFree.{away_one, away_plain}
+use Rattle.laws.proofs.OwnFree.{held_next}
 use Rattle.laws.specs.OwnViews.{poll_allowed}
 use Rattle.laws.specs.OwnPoll.{poll_named, taken_out, taken_memory, taken, popped}
 

@@ -5,8 +5,10 @@ use Rattle.virtio.specs.Memory.{Memory}
 use Rattle.rules.specs.declared.Held.TheVariants.{Holds}
 use Rattle.rules.specs.Owning.{Owning, part, shown, held_part, poll, own_view}
 use Rattle.laws.specs.OwnIs.{OwnGood}
-use Rattle.laws.specs.OwnViews.{InBuffer, view_inside, held_viewed}
-use Rattle.laws.specs.OwnKeeps.{Keeps, poll_keeps}
+use Rattle.laws.specs.OwnViews.{InBuffer, held_viewed}
+use Rattle.laws.proofs.OwnViews.{view_inside}
+use Rattle.laws.specs.OwnKeeps.{Keeps}
+use Rattle.laws.proofs.OwnKeeps.{poll_keeps}
 
 -- THE LAW
 pub poll_viewed

@@ -30,7 +30,8 @@ use Rattle.laws.specs.Depends.{Told, told, SameAt, id_now, len_now}
 use Rattle.laws.specs.CallDepends.{notified_by, add_alike, pop_alike, should_notify_alike, set_notify_alike}
 use Rattle.laws.specs.Regions.{still_fits, moves_fit, add_shaped}
 use Rattle.laws.specs.Whole.{add_is, pop_is, add_refused, pop_refused}
-use Rattle.laws.specs.OwnNew.{new_answers, new_goes, new_refused}
+use Rattle.laws.specs.OwnNew.{new_goes, new_refused}
+use Rattle.laws.proofs.OwnNew.{new_answers}
 
 -- what a call tells its caller: all of an answer but memory and store
 pub record OwnTold : Type 0 where
