@@ -7,7 +7,8 @@ use Rattle.std.proofs.lemmas.Bool.{false≢true}
 use Prim.Native.Nat.{ℕ, suc, ◌+◌, ◌-◌, ◌*◌, ◌%◌, ◌≤◌, ◌<◌}
 use Rattle.std.proofs.Math.Nat.{sub-zero}
 use native.Mathlib.Omega.{arith}
-use Rattle.lists.specs.Asked.{Bounded, Known, Asked, answered, ask, ask_walked, ask_unwalked, ask_over, ask_link, ask_met, ask_out, ask_end, ask_enter, ask_long}
+use Rattle.lists.specs.Asked.{Bounded, Known, Asked, ask_walked, ask_unwalked, ask_over, ask_link, ask_met, ask_out, ask_end, ask_enter, ask_long}
+use Rattle.lists.proofs.Asked.{ask, answered}
 use Rattle.lists.specs.Marks.{marks_of}
 use Rattle.lists.specs.Once.{once_each, below_append}
 use Rattle.lists.specs.Pick.{every}

@@ -1,4 +1,5 @@
--- What memory a run and a whole call may change, byte by byte: the bytes of the places in the call's list, and no others.
+-- What holds of runs and of whole calls; and what memory a public step and set_dev_notify may change, byte by byte: the bytes of the places in the call's
+-- list, and no others. That it is so of runs, pop and add is in proofs/.
 use Rattle.std.specs.Prelude.{◌≡◌, Bool, true, false, cond, ◌&&◌, List, [], ◌∷◌, ◌++◌, map, ℕ, zero, suc, ◌+◌, ◌*◌, ◌/◌, ◌≤◌, ◌<◌, ltb, eqb, length, get_or, set}
 use Rattle.std.proofs.Math.Path.{refl, fun_ext}
 use Rattle.std.proofs.Common.{ap, ap₂, ◌∙◌, inl, arith, eqb-true, get_or-set_same}

@@ -1,5 +1,5 @@
--- What memory an access and a step of an open call may change, byte by byte: none but the bytes of the one place that it stores to, which is a place of the
--- call's list.
+-- What memory an access and a step of an open call may change, byte by byte: none but the bytes of the one place that it stores to; and the places that each
+-- call may store to. That a step stores to one of its call's is in proofs/.
 use Rattle.std.specs.Prelude.{◌≡◌, Bool, not, ◌&&◌, ◌⊎◌, ℕ, ◌+◌, ◌-◌, ◌*◌, ◌%◌, ◌≤◌, ◌<◌, ltb, length, get_or}
 use Rattle.std.proofs.Math.Path.{refl, ap}
 use Rattle.std.proofs.Common.{sym, subst, ◌∙◌, true≢false, inl, inr, arith, ltb-true, ltb-false, eqb-true}

@@ -1,5 +1,5 @@
--- Every call of the owning queue leaves a good record good, whatever the device writes: the memory and the store are any lists.
--- So no buffer is lost or doubled.
+-- What it is that every call of the owning queue leaves a good record good, whatever the device writes, so that no buffer is lost or doubled, which proofs/
+-- shows: the memory and the store are any lists. Here it is shown of the calls that pass through.
 use Rattle.std.specs.Prelude.{◌≡◌, ◌⊎◌, Bool, true, false, List, [], ◌∷◌, ℕ, ◌<◌}
 use Rattle.std.proofs.Common.{sym, subst, ◌∙◌}
 use Rattle.std.proofs.Math.Path.{ap}

@@ -1,5 +1,5 @@
--- Poll and release, exactly: each refusal, nothing ready, number 4, number 10, a buffer shown, and a buffer given back; and what each leaves
--- in record and memory.
+-- Poll and release, exactly: each refusal, nothing ready, number 4, a buffer shown; and what number 10 and a buffer given back leave in record and memory,
+-- which proofs/ shows.
 use Rattle.std.specs.Prelude.{◌≡◌, refl, true, false, not, List, [], ◌∷◌, ℕ, ◌+◌, ◌*◌, ◌≤◌, ◌<◌, ltb, leb, eqb}
 use Rattle.std.proofs.Common.{sym, ap₂, subst, ◌∙◌, inl, inr, arith, lt-ltb, le-ltb, le-leb, eq-eqb, ne_eqb}
 use Rattle.std.proofs.Math.Path.{ap}

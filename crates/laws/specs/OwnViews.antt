@@ -1,5 +1,5 @@
--- What is shown: the view of a poll lies inside its own token's buffer, whatever record, memory and store the poll is given; no other call has a
--- view; and what is viewed of any record and store are bytes of the held buffer, or none.
+-- What is shown: what it is that the view of a poll lies inside its own token's buffer, which proofs/ shows; no other call has a view; and what is viewed
+-- of any record and store are bytes of the held buffer, or none.
 use Rattle.std.specs.Prelude.{◌≡◌, ◌⊎◌, Bool, true, false, cond, ◌&&◌, List, [], ℕ, ◌+◌, ◌*◌, ◌≤◌, ◌<◌, eqb, length, take, drop}
 use Rattle.std.proofs.Math.Path.{refl}
 use Rattle.std.proofs.Common.{ap, ◌∙◌, inl, inr, arith}

@@ -1,5 +1,5 @@
 -- Exactly how many steps an open call still takes on a memory that nothing else touches in between, from the numbers that it would load there: all loads come
--- before the first store, so that no store alters them.
+-- before the first store, so that no store alters them. That a step takes one of them is in proofs/.
 use Rattle.std.specs.Prelude.{◌≡◌, refl, Bool, true, false, cond, ℕ, ◌+◌, ◌-◌, ◌≤◌, eqb}
 use Rattle.std.proofs.Common.{sym, ap, arith, eqb-true}
 use Rattle.std.proofs.lemmas.Bool.{false≢true}

@@ -1,18 +1,15 @@
 -- What a check of names knows on its way: that each of 0..n-1 is named once, and that every link is below n, where a link is tested when it is met and no pass
 -- over the links is made before. Where all links are below n, marking is the test; and where the test says yes, every number was met, and so was its link.
-use Rattle.std.specs.Prelude.{◌≡◌, refl, Bool, true, false, not, ◌&&◌, ℕ, zero, suc, ◌+◌, ◌-◌, ◌*◌, ◌≤◌, ◌<◌, ltb, eqb, length, get_or, set}
-use Rattle.std.proofs.Common.{sym, ap, ◌∙◌, true≢false, add-one, arith, lt-ltb, ltb-true}
+use Rattle.std.specs.Prelude.{◌≡◌, refl, Bool, true, false, not, ◌&&◌, ℕ, zero, suc, ◌+◌, ◌-◌, ◌≤◌, ◌<◌, eqb, length, get_or, set}
+use Rattle.std.proofs.Common.{sym, ap, ◌∙◌, add-one, arith}
 use Rattle.std.proofs.Math.Path.{subst}
 use Rattle.std.proofs.Math.Bool.{and-false}
 use Rattle.std.proofs.lemmas.Bool.{false≢true}
 use mathlib.Core.List.{List, [], ◌∷◌, ◌++◌}
-use Rattle.lists.specs.Marks.{marks_of, no_marks}
-use Rattle.lists.specs.Once.{once_each, Below, Once, once_true, count, count_other}
-use Rattle.lists.specs.Pick.{every}
-use Rattle.lists.specs.PickLaws.{All, every_true, true_every}
+use Rattle.lists.specs.Once.{once_each}
+use Rattle.lists.specs.PickLaws.{All}
 use Rattle.lists.specs.Runs.{Inside, Begins, all_append}
-use Rattle.lists.specs.Tests.{by_test, by_eq}
-use Rattle.lists.specs.Visit.{visit, once_visit, walk_next, walk_seen, walk_met}
+use Rattle.lists.specs.Visit.{visit, walk_next, walk_seen, walk_met}
 use Rattle.lists.specs.Visited.{Visited, visited_none, MarkedRun}
 use Rattle.lists.specs.Walk.{walk, walk_length, walks}
 
@@ -51,16 +48,6 @@ module _ (n : ℕ) (next : ℕ → ℕ) where
 
 -- ---- all names
 
--- what holds of all holds of one that is counted
-all_counted : (P : ℕ → Type 0) (i : ℕ) (xs : List ℕ) → All P xs → 0 < count i xs → P i
-unfolding count
-all_counted P i [] a l = absurd (omega arith)
-all_counted P i (x ∷ xs) a l = by_eq i x (λ z. rw z a.0) (λ z. all_counted P i xs a.1 (let e = count_other i x xs z in omega arith))
-
-all_below_lem : (n : ℕ) (next : ℕ → ℕ) (xs : List ℕ) → All (Inside n next) xs → Below n xs
-all_below_lem n next [] a = tt
-all_below_lem n next (x ∷ xs) a = (a.0.0, all_below_lem n next xs a.1)
-
 -- more names than are left
 visit_short : (seen : List Bool) (left : ℕ) (xs rest : List ℕ) → left < length xs → visit seen left (xs ++ rest) ≡ false
 unfolding visit
@@ -89,33 +76,6 @@ module _ (n : ℕ) (next : ℕ → ℕ) (names : List ℕ) where
   pub record Asked (marks : List Bool) (left : ℕ) (rest : List ℕ) : Type 0 where
     pub told : Stays n next → once_each n names ≡ visit marks left rest
     pub safe : All (Inside n next) rest → visit marks left rest ≡ true → All (Inside n next) names × (once_each n names ≡ true)
-
-  -- THE ANSWER
-  met_all : All (Inside n next) names → once_each n names ≡ true → every (λ i. ltb (next i) n) n 0 ≡ true
-  met_all a v =
-      let o : Once n names = once_true n names v in
-      true_every (λ i. ltb (next i) n) n 0
-      (λ j l u. lt-ltb (next j) n (all_counted (Inside n next) j names a (let e = o.each j (omega arith) in omega arith)).1)
-
-  pub answered : (b : Bool) → Known b → b ≡ (every (λ i. ltb (next i) n) n 0 && once_each n names)
-  answered b k =
-      by_test (every (λ i. ltb (next i) n) n 0)
-      (λ e. rw e (sym (k.told (λ d l. ltb-true (next d) n (every_true (λ i. ltb (next i) n) n 0 e d (omega arith) (omega arith))))))
-      (λ e. rw e (no b k e))
-    where
-      no : (b : Bool) → Known b → every (λ i. ltb (next i) n) n 0 ≡ false → b ≡ false
-      no false k e = refl
-      no true k e = absurd (true≢false (sym (met_all (k.safe refl).0 (k.safe refl).1) ∙ e))
-
-  -- the beginning: no mark is set
-  pub ask : (ws : List ℕ) → n ≤ 64 * length ws → ((i : ℕ) → get_or ws i 0 ≡ 0) → (Stays n next → Below n names) → Asked (marks_of ws) n names
-  ask ws room clear below = record {
-    told = λ s. by_marks (below s);
-    safe = λ a v. (a, by_marks (all_below_lem n next names a) ∙ v);
-  }
-    where
-      by_marks : Below n names → once_each n names ≡ visit (marks_of ws) n names
-      by_marks b = once_visit (64 * length ws) n names room b ∙ ap (λ s. visit s n names) (sym (no_marks ws clear))
 
   known_no : (Stays n next → once_each n names ≡ false) → Known false
   known_no f = record { told = f; safe = λ e. absurd (false≢true e) }

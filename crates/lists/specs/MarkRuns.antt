@@ -1,5 +1,5 @@
 -- A run of marks that lies in one word: the word's `or` with a mask of ones marks it, and its `and` with the mask tells whether one was marked before.
-use Rattle.std.specs.Prelude.{◌≡◌, refl, ◌⊎◌, Bool, true, not, List, ℕ, zero, suc, ◌+◌, ◌-◌, ◌*◌, ◌/◌, ◌%◌, ◌^◌, ◌≤◌, ◌<◌, min, eqb, ltb, length}
+use Rattle.std.specs.Prelude.{◌≡◌, refl, ◌⊎◌, Bool, true, not, List, ℕ, zero, suc, ◌+◌, ◌*◌, ◌/◌, ◌%◌, ◌^◌, ◌≤◌, ◌<◌, min, eqb, ltb, length}
 use Rattle.std.proofs.Common.{sym, ◌∙◌, inl, inr, true≢false, ne_eqb, ltb-true, ltb-false, length-set, ext_get_or}
 use Rattle.std.proofs.Math.Path.{ap}
 use Rattle.std.proofs.Math.Bool.{false}

@@ -12,7 +12,8 @@ use Rattle.virtio.specs.Desc.{desc_at, put_desc, desc_agree}
 use Rattle.virtio.specs.Layout.{avail_size, avail_at, used_at, need_one, need_two, need_pool}
 use Rattle.virtio.specs.Memory.{Memory, Region, in_one, in_two, in_pool, Place, desc, avail_flags, avail_idx, used_event, avail_ring, used_flags, used_idx, avail_event, used_id, used_len, entry, Spot, used_region, spot, bytes_of, with_bytes, load_at, store_at, load_desc_at, store_desc_at}
 use Rattle.virtio.specs.Device.{device_writes}
-use Rattle.virtio.specs.Sizes.{Has, legacy_apart, need, inside, one_writer}
+use Rattle.virtio.specs.Sizes.{Has, legacy_apart, need, inside}
+use Rattle.virtio.proofs.Sizes.{one_writer}
 use Rattle.rules.specs.Record.{Queue}
 use Rattle.rules.specs.Calls.{fits}
 use Rattle.rules.specs.Step.{Access, nothing, load, store, store_desc, accessed}

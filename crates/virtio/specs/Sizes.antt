@@ -1,5 +1,5 @@
 -- Facts of the parts' sizes and places, proved once for any queue size n and both layouts: the parts are aligned and do not overlap, each field
--- lies inside what its region needs, and no field that the device writes shares a byte with one that the driver writes.
+-- lies inside what its region needs; and what it is that no field that the device writes shares a byte with one that the driver writes, which proofs/ shows.
 use Rattle.std.specs.Prelude.{◌≡◌, refl, Bool, true, false, cond, ◌⊎◌, ℕ, ◌+◌, ◌*◌, ◌%◌, ◌^◌, ◌≤◌, ◌<◌}
 use Rattle.std.proofs.Common.{true≢false, inl, inr, arith}
 use Rattle.std.proofs.lemmas.Bool.{false≢true}
@@ -136,19 +136,8 @@ inside legacy n avail_event h = in_used legacy n (4 + 8 * n) 2 (omega arith)
 inside legacy n (entry j) h = omega arith
 
 -- No byte has two writers: two fields of different writers lie in different regions, or the driver's ends where the device's starts or before.
-abbrev Apart : Spot → Spot → Type 0
+abbrev pub Apart : Spot → Spot → Type 0
 Apart a b = (a.region ≡ b.region → ⊥) ⊎ (a.offset + a.width ≤ b.offset)
-
-apart : (legacy : Bool) (n : ℕ) (a b : Spot) → (a.region ≡ in_pool) ⊎ ((a.region ≡ in_one) × (a.offset + a.width ≤ avail_at n + avail_size n))
-    → (b.region ≡ used_region legacy) × (used_at legacy n ≤ b.offset) × (b.offset + b.width ≤ used_at legacy n + used_size n) → Apart a b
-apart true n a b (inl e) f = inl (λ g. let i = f.0 in let z : ◌≡◌ {A = ℕ} 0 1 = cc in omega arith)
-apart true n a b (inr e) f = let l = legacy_apart n in inr (omega arith)
-apart false n a b (inl e) f = inl (λ g. let i = f.0 in let z : ◌≡◌ {A = ℕ} 0 1 = cc in omega arith)
-apart false n a b (inr e) f = inl (λ g. let i = f.0 in let j = e.0 in let z : ◌≡◌ {A = ℕ} 0 1 = cc in omega arith)
-
-pub one_writer : (legacy : Bool) (n : ℕ) (p q : Place) → Has n p → Has n q → device_writes p ≡ false → device_writes q ≡ true → Apart (spot legacy n p) (spot legacy n q)
-one_writer legacy n p q h k e f =
-    apart legacy n (spot legacy n p) (spot legacy n q) (front_fields legacy n p h e) (used_fields legacy n q k f)
 
 -- ---- the fields fill their parts, in VIRTIO's order and with no byte between them
 
