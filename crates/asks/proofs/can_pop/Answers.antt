@@ -1,10 +1,7 @@
 -- `asks::can_pop` meets its contract: refused, or one load of the used ring's idx.
 use mathlib.Core.Path.{◌≡◌, ap, ◌∙◌}
 use native.Mathlib.Omega.{arith}
-use borrow.Author.Rules.{rules}
 use Rattle.lists.specs.Pick.{first}
-use Rattle.virtio.specs.Memory.{Memory}
-use Rattle.rules.specs.Record.{Queue}
 use Rattle.rules.specs.Calls.{call_refusal}
 use Rattle.views.specs.Tables.{tables_of, queue_of}
 use Rattle.tables.specs.Ready.{Fitting}

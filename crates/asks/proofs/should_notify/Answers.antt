@@ -1,11 +1,8 @@
 -- `asks::should_notify` meets its contract: refused, or one load of the event index or of the flags.
 use mathlib.Core.Path.{◌≡◌, ap, ◌∙◌}
 use native.Mathlib.Omega.{arith}
-use borrow.Author.Rules.{rules}
 use lib.Dec.{leb}
 use Rattle.lists.specs.Pick.{first, one_if}
-use Rattle.virtio.specs.Memory.{Memory}
-use Rattle.rules.specs.Record.{Queue}
 use Rattle.rules.specs.Calls.{call_refusal}
 use Rattle.views.specs.Tables.{tables_of, queue_of}
 use Rattle.tables.specs.Ready.{Fitting}

@@ -5,7 +5,6 @@ use native.Mathlib.Omega.{arith}
 use lib.Dec.{eqb}
 use lib.ListN.{get_or}
 use Rattle.opens.specs.Turns.{given_at}
-use borrow.Author.Rules.{rules}
 use Rattle.opens.proofs.buffer_at.Goals as goal
 
 pub returns : goal.returns

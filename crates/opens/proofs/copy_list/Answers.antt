@@ -1,10 +1,9 @@
 -- `opens::copy_list` meets its contract: what copying the list makes of the tables is what copying the rest makes of them.
 use mathlib.Core.Path.{◌≡◌, refl, sym, ap, ◌∙◌}
 use mathlib.Core.List.{List, ◌∷◌}
-use Prim.Native.Nat.{ℕ, ◌+◌, ◌-◌, ◌≤◌}
+use Prim.Native.Nat.{ℕ, ◌+◌}
 use native.Mathlib.Omega.{arith}
-use borrow.Author.Rules.{rules}
-use lib.ListN.{length, drop}
+use lib.ListN.{drop}
 use Rattle.virtio.specs.declared.Buffer.{Buffer}
 use Rattle.rules.specs.Record.{Tables}
 use Rattle.views.specs.Tables.{tables_of}

@@ -1,16 +1,10 @@
 -- `opens::copy_list` meets its contract: what copying the list makes of the tables is what copying the rest makes of them.
-use mathlib.Core.Path.{◌≡◌, refl, sym, ap, ◌∙◌}
-use mathlib.Core.List.{List, ◌∷◌}
+use mathlib.Core.Path.{◌≡◌}
+use mathlib.Core.List.{List}
 use Prim.Native.Nat.{ℕ, ◌+◌, ◌-◌, ◌≤◌}
-use native.Mathlib.Omega.{arith}
-use borrow.Author.Rules.{rules}
 use lib.ListN.{length, drop}
-use Rattle.virtio.specs.declared.Buffer.{Buffer}
-use Rattle.rules.specs.Record.{Tables}
 use Rattle.views.specs.Tables.{tables_of}
 use Rattle.opens.specs.Given.{given, with_copied}
-use Rattle.opens.specs.Turns.{given_rest, given_over}
-use Rattle.opens.specs.Stores.{copied_turn, copied_end}
 use Rattle.opens.proofs.copy_list.Given as goal
 
 abbrev pub invariant-loop-j : goal.invariant-loop-j

@@ -2,9 +2,8 @@
 use mathlib.Core.Path.{◌≡◌, refl, sym, ap, ◌∙◌, subst}
 use mathlib.Core.Bool.{Bool}
 use mathlib.Core.List.{List, [], ◌∷◌}
-use Prim.Native.Nat.{ℕ, ◌+◌, ◌-◌, ◌≤◌, ◌<◌}
+use Prim.Native.Nat.{ℕ, ◌+◌, ◌-◌, ◌<◌}
 use native.Mathlib.Omega.{arith}
-use borrow.Author.Rules.{rules}
 use lib.Dec.{ltb}
 use lib.ListN.{length, drop}
 use Rattle.virtio.specs.declared.Buffer.{Buffer}
@@ -14,7 +13,7 @@ use Rattle.views.specs.Tables.{tables_of}
 use Rattle.tables.specs.Stores.{with_desc, next_below}
 use Rattle.opens.specs.Given.{given, next_in}
 use Rattle.opens.specs.Turns.{given_length, given_rest, given_over}
-use Rattle.opens.specs.Stores.{Filling, filling_start, filling_turn, filling_end, more_is}
+use Rattle.opens.specs.Stores.{filling_start, filling_turn, filling_end, more_is}
 use Rattle.opens.proofs.fill_descs.Goals as goal
 
 pub loop-j-init : goal.loop-j-init

@@ -1,20 +1,12 @@
 -- `opens::fill_descs` meets its contract: what filling the list makes of the tables, and where it ends, is what filling the rest from i on makes of them.
-use mathlib.Core.Path.{◌≡◌, refl, sym, ap, ◌∙◌, subst}
+use mathlib.Core.Path.{◌≡◌}
 use mathlib.Core.Bool.{Bool}
-use mathlib.Core.List.{List, [], ◌∷◌}
-use Prim.Native.Nat.{ℕ, ◌+◌, ◌-◌, ◌≤◌, ◌<◌}
-use native.Mathlib.Omega.{arith}
-use borrow.Author.Rules.{rules}
-use lib.Dec.{ltb}
+use mathlib.Core.List.{List}
+use Prim.Native.Nat.{◌-◌, ◌≤◌, ◌<◌}
 use lib.ListN.{length, drop}
-use Rattle.virtio.specs.declared.Buffer.{Buffer}
-use Rattle.rules.specs.Record.{Tables}
-use Rattle.rules.specs.Calls.{filled}
 use Rattle.views.specs.Tables.{tables_of}
-use Rattle.tables.specs.Stores.{with_desc, next_below}
-use Rattle.opens.specs.Given.{given, next_in}
-use Rattle.opens.specs.Turns.{given_length, given_rest, given_over}
-use Rattle.opens.specs.Stores.{Filling, filling_start, filling_turn, filling_end, more_is}
+use Rattle.opens.specs.Given.{given}
+use Rattle.opens.specs.Stores.{Filling}
 use Rattle.opens.proofs.fill_descs.Given as goal
 
 abbrev pub invariant-loop-j : goal.invariant-loop-j

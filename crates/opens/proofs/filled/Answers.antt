@@ -1,5 +1,4 @@
 -- `opens::filled` meets its contract: its flags are those that `flags_of` answers.
-use borrow.Author.Rules.{rules}
 use Rattle.opens.proofs.filled.Goals as goal
 
 pub returns : goal.returns

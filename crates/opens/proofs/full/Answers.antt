@@ -1,6 +1,5 @@
 -- `opens::full` meets its contract: test by test.
 use borrow.Author.Tests.{eq-eqb, ne_eqb, lt-ltb, le-ltb}
-use borrow.Author.Rules.{rules}
 use Rattle.opens.proofs.full.Goals as goal
 
 pub returns-then-c : goal.returns-then-c

@@ -10,7 +10,6 @@ use Rattle.tables.specs.Ready.{Ready, small, closed}
 use Rattle.opens.specs.Given.{given}
 use Rattle.opens.specs.Openings.{slot_in}
 use Rattle.opens.specs.Matching.{matches_past, matches_none, matches_listed, matches_direct, listed_in}
-use borrow.Author.Rules.{rules}
 use Rattle.opens.proofs.matches.Goals as goal
 
 pub returns-then-c-token : goal.returns-then-c-token

@@ -1,5 +1,4 @@
 -- `opens::open_add` meets its contract: by the mode and the number of buffers, one of the two openings.
-use mathlib.Core.Logic.{⊎_elim}
 use mathlib.Core.Path.{◌≡◌, ◌∙◌}
 use mathlib.Core.List.{List}
 use native.Mathlib.Omega.{arith}
@@ -10,7 +9,6 @@ use Rattle.views.specs.Tables.{tables_of, queue_of}
 use Rattle.opens.specs.Given.{given}
 use Rattle.opens.specs.Turns.{given_length}
 use Rattle.opens.specs.Openings.{opened_list, opened_one, opened_direct}
-use borrow.Author.Rules.{rules}
 use Rattle.opens.proofs.open_add.Goals as goal
 use Rattle.opens.proofs.open_add.Goals.{then-modes+else-addrs-gt1, else-modes}
 

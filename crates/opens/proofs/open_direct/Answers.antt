@@ -9,7 +9,6 @@ use Rattle.tables.specs.Ready.{Ready, closed}
 use Rattle.opens.specs.Given.{given}
 use Rattle.opens.specs.Turns.{given_length}
 use Rattle.opens.specs.Openings.{Opening, opening, direct_opens}
-use borrow.Author.Rules.{rules}
 use Rattle.opens.proofs.open_direct.Goals.{Start}
 use Rattle.opens.proofs.open_direct.Goals as goal
 

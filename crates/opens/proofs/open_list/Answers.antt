@@ -10,7 +10,6 @@ use Rattle.tables.specs.Ready.{Ready}
 use Rattle.opens.specs.Given.{given}
 use Rattle.opens.specs.Turns.{given_length}
 use Rattle.opens.specs.Openings.{Opening, opening, list_opens}
-use borrow.Author.Rules.{rules}
 use Rattle.opens.proofs.open_list.Goals.{Start}
 use Rattle.opens.proofs.open_list.Goals as goal
 

@@ -1,15 +1,9 @@
 -- `opens::outputs_from` meets its contract: what is asked of the list from the start on is what is asked of it from i on.
-use mathlib.Core.Path.{◌≡◌, refl, sym, ◌∙◌}
-use mathlib.Core.List.{List, ◌∷◌}
-use Prim.Native.Nat.{ℕ, ◌+◌, ◌-◌}
-use native.Mathlib.Omega.{arith}
-use borrow.Author.Rules.{rules}
+use mathlib.Core.Path.{◌≡◌}
+use Prim.Native.Nat.{◌-◌}
 use lib.ListN.{length, drop}
-use Rattle.virtio.specs.declared.Buffer.{Buffer}
-use borrow.Author.Tests.{not-true, not-false}
 use Rattle.virtio.specs.Chain.{all_outputs}
 use Rattle.opens.specs.Given.{given}
-use Rattle.opens.specs.Turns.{given_rest, given_over, outputs_next, outputs_stop, outputs_none}
 use Rattle.opens.proofs.outputs_from.Given as goal
 
 abbrev pub invariant-loop-i : goal.invariant-loop-i

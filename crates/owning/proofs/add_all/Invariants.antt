@@ -1,17 +1,10 @@
 -- The answer is `add_own` of the queue. The loop's invariant: it is `add_own` of what the adds so far came to.
-use mathlib.Core.Path.{◌≡◌, refl, sym, ◌∙◌}
+use mathlib.Core.Path.{◌≡◌}
 use Prim.Native.Nat.{◌-◌, ◌≤◌}
-use native.Mathlib.Nat.{sub-zero}
-use native.Mathlib.Omega.{arith}
 use lib.ListN.{length}
-use Rattle.virtio.specs.Memory.{Memory}
 use Rattle.rules.specs.Owning.{add_own}
 use Rattle.access.specs.Accesses.{memory}
 use Rattle.record.specs.Abs.{abs}
-use Rattle.record.specs.Asked.{answer_of}
-use Rattle.owns.specs.Turns.{address_fits}
-use Rattle.owning.specs.Making.{adds_turn, adds_end}
-use borrow.Author.Rules.{rules}
 use Rattle.owning.proofs.add_all.Given as goal
 
 abbrev pub invariant-loop-i : goal.invariant-loop-i

@@ -1,10 +1,8 @@
 -- The answer is `released` of a held token: its buffer is added again.
 use mathlib.Core.Path.{◌∙◌}
-use Rattle.virtio.specs.Memory.{Memory}
 use Rattle.access.specs.Accesses.{memory}
 use Rattle.owning.specs.Owned.{own_of}
 use Rattle.owning.specs.Cases.{gives_back}
-use borrow.Author.Rules.{rules}
 use Rattle.owning.proofs.give_back.Goals as goal
 
 pub returns : goal.returns

@@ -8,7 +8,6 @@ use Rattle.owning.specs.Making.{fits_not, fits_then}
 use Rattle.refusals.specs.Refusals.{fits_by}
 use lib.Dec.{leb}
 use Rattle.rules.specs.WellFormed.{base_ok}
-use borrow.Author.Rules.{rules}
 use Rattle.owning.proofs.new_fits.Goals as goal
 
 pub returns-then-not-own_fits : goal.returns-then-not-own_fits

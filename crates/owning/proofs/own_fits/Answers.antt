@@ -4,7 +4,6 @@ use native.Mathlib.Omega.{arith}
 use Rattle.owns.specs.Turns.{product_fits}
 use mathlib.Core.Path.{sym, ◌∙◌}
 use borrow.Author.Tests.{not-true, not-false}
-use borrow.Author.Rules.{rules}
 use Rattle.owning.proofs.own_fits.Goals as goal
 
 pub returns-then-not-fits : goal.returns-then-not-fits

@@ -1,13 +1,11 @@
 -- The answer is `poll_ready`: peek tells whether an element waits, and its token.
 use mathlib.Core.Path.{◌≡◌, ◌∙◌}
-use Rattle.virtio.specs.Memory.{Memory}
 use Rattle.access.specs.Accesses.{memory}
 use Rattle.record.specs.Abs.{abs}
 use Rattle.owning.specs.Owned.{own_of}
 use Rattle.rules.specs.Calls.{call_refusal}
 use Rattle.owning.specs.Sound.{Sound, sound, not_refused}
 use Rattle.owning.specs.Cases.{peek_none, peek_some}
-use borrow.Author.Rules.{rules}
 use Rattle.owning.proofs.poll_ready.Goals.{Start}
 use Rattle.owning.proofs.poll_ready.Goals as goal
 

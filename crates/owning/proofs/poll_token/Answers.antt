@@ -2,12 +2,10 @@
 use mathlib.Core.Path.{◌∙◌}
 use Prim.Native.Nat.{◌+◌, ◌*◌, ◌<◌, ◌^◌}
 use native.Mathlib.Omega.{arith}
-use Rattle.virtio.specs.Memory.{Memory}
 use Rattle.access.specs.Accesses.{memory}
 use Rattle.owning.specs.Owned.{own_of}
 use Rattle.owning.specs.Sound.{sound, begins}
 use Rattle.owning.specs.Cases.{token_past, token_below}
-use borrow.Author.Rules.{rules}
 use Rattle.owning.proofs.poll_token.Goals.{Start}
 use Rattle.owning.proofs.poll_token.Goals as goal
 

@@ -3,12 +3,10 @@ use mathlib.Core.Path.{ap, ◌∙◌}
 use mathlib.Core.List.{List}
 use Prim.Native.Nat.{◌+◌, ◌*◌}
 use Rattle.virtio.specs.declared.Buffer.{Buffer}
-use Rattle.virtio.specs.Memory.{Memory}
 use Rattle.rules.specs.Calls.{pop_used}
 use Rattle.access.specs.Accesses.{memory}
 use Rattle.record.specs.Abs.{abs}
 use Rattle.owns.specs.Turns.{own_given}
-use borrow.Author.Rules.{rules}
 use Rattle.owning.proofs.pop_own.Goals as goal
 
 pub returns : goal.returns

@@ -1,11 +1,9 @@
 -- The answer is `poll_popped`: as the pop was answered, shown, or added again.
 use mathlib.Core.Path.{◌≡◌, ◌∙◌}
-use Rattle.virtio.specs.Memory.{Memory}
 use Rattle.access.specs.Accesses.{memory}
 use Rattle.record.specs.Asked.{answer_of}
 use Rattle.owning.specs.Owned.{own_of}
 use Rattle.owning.specs.Cases.{pop_no, pop_shows, pop_again}
-use borrow.Author.Rules.{rules}
 use Rattle.owning.proofs.popped.Goals.{Else-r-ne0}
 use Rattle.owning.proofs.popped.Goals as goal
 

@@ -2,7 +2,6 @@
 use Prim.Native.Nat.{◌*◌, ◌<◌, ◌^◌}
 use native.Mathlib.Omega.{arith}
 use Rattle.owns.specs.Turns.{product_fits}
-use borrow.Author.Rules.{rules}
 use Rattle.owning.proofs.showing.Goals as goal
 
 pub overflow_mul-result : goal.overflow_mul-result

@@ -1,13 +1,7 @@
 -- The answer is whether `out_but` holds at each number below n. The loop's invariant: it is whether it holds at each from h on.
-use mathlib.Core.Path.{◌≡◌, sym, ◌∙◌}
-use mathlib.Core.Bool.{Bool, true, false}
-use Prim.Native.Nat.{ℕ, ◌-◌, ◌≤◌}
-use native.Mathlib.Omega.{arith}
-use native.Mathlib.Nat.{sub-zero}
-use borrow.Author.Rules.{rules}
-use borrow.Author.Tests.{not-false, not-true}
+use mathlib.Core.Path.{◌≡◌}
+use Prim.Native.Nat.{◌-◌, ◌≤◌}
 use Rattle.lists.specs.Pick.{every}
-use Rattle.heads.specs.Heads.{heads_turn, heads_stop, heads_end}
 use Rattle.views.specs.Tables.{tables_of, queue_of}
 use Rattle.owns.specs.Turns.{out_but}
 use Rattle.owns.proofs.all_out_but.Given as goal

@@ -1,9 +1,7 @@
 -- The answer is the held clause: with nothing held all are out, and a held token is as `held_one` tells.
 use mathlib.Core.Path.{◌∙◌}
-use Rattle.rules.specs.Record.{Queue}
 use Rattle.views.specs.Tables.{tables_of, queue_of}
 use Rattle.owns.specs.Turns.{but_nothing}
-use borrow.Author.Rules.{rules}
 use Rattle.owns.proofs.held_ok.Goals as goal
 
 pub returns-in-Nothing : goal.returns-in-Nothing

@@ -3,12 +3,11 @@ use mathlib.Core.Path.{◌≡◌, sym, ◌∙◌}
 use mathlib.Core.Bool.{false}
 use Prim.Native.Nat.{◌<◌}
 use borrow.Author.Tests.{not-false, not-true}
-use Rattle.rules.specs.Record.{Queue, noted_of, outstanding}
+use Rattle.rules.specs.Record.{noted_of, outstanding}
 use Rattle.views.specs.Tables.{tables_of, queue_of}
 use Rattle.owns.specs.Owns.{owning_of}
 use Rattle.owns.specs.Turns.{out_none, out_some}
 use Rattle.owns.specs.Clauses.{held_past, held_out, held_short, held_length}
-use borrow.Author.Rules.{rules}
 use Rattle.owns.proofs.held_one.Goals.{After-noted_at, Else-c-token, Else-noted_at-ne0}
 use Rattle.owns.proofs.held_one.Goals as goal
 

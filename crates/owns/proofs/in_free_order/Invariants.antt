@@ -1,12 +1,10 @@
 -- The answer is whether the free list is 0, 1, .. n-1. The loop's invariant: it is whether the rest of the list goes on so.
-use mathlib.Core.Path.{◌≡◌, sym, ap, subst, ◌∙◌}
-use Prim.Native.Nat.{ℕ, ◌+◌, ◌-◌, ◌≤◌, ◌<◌}
-use native.Mathlib.Omega.{arith}
-use borrow.Author.Rules.{rules}
+use mathlib.Core.Path.{◌≡◌}
+use Prim.Native.Nat.{◌-◌, ◌≤◌, ◌<◌}
 use Rattle.lists.specs.Pick.{rising, same}
-use Rattle.rules.specs.Record.{Queue, free_list}
+use Rattle.rules.specs.Record.{free_list}
 use Rattle.views.specs.Tables.{tables_of, queue_of}
-use Rattle.owns.specs.Turns.{order_rest, order_used, order_start, order_turn, order_stop, order_end}
+use Rattle.owns.specs.Turns.{order_rest}
 use Rattle.owns.proofs.in_free_order.Given as goal
 
 abbrev pub invariant-loop-i : goal.invariant-loop-i

@@ -2,7 +2,7 @@
 use mathlib.Core.Path.{◌≡◌, sym, ◌∙◌}
 use mathlib.Core.Bool.{true, false}
 use borrow.Author.Tests.{not-false, not-true}
-use Rattle.rules.specs.Record.{Queue, is_open}
+use Rattle.rules.specs.Record.{is_open}
 use Rattle.rules.specs.WellFormed.{broken}
 use Rattle.rules.specs.Owning.{size_allowed}
 use Rattle.views.specs.Tables.{tables_of, queue_of}
@@ -10,7 +10,6 @@ use Rattle.tables.specs.Ready.{Ready}
 use Rattle.refusals.specs.Checked.{Indices, ready}
 use Rattle.owns.specs.Clauses.{unbroken}
 use Rattle.owns.specs.Refused.{new_bad, new_short, new_busy, new_size, new_order, new_told}
-use borrow.Author.Rules.{rules}
 use Rattle.owns.proofs.new_refusal.Goals.{Else-broken-ne0, Else-is_open, Else-not-fit, Else-not-size_allowed, Start}
 use Rattle.owns.proofs.new_refusal.Goals as goal
 

@@ -2,10 +2,8 @@
 use mathlib.Core.Path.{sym, ◌∙◌}
 use native.Mathlib.Omega.{arith}
 use borrow.Author.Tests.{eq-eqb}
-use Rattle.rules.specs.Record.{Queue}
 use Rattle.views.specs.Tables.{tables_of, queue_of}
 use Rattle.owns.specs.Turns.{but_aside, but_noted}
-use borrow.Author.Rules.{rules}
 use Rattle.owns.proofs.out_but.Goals as goal
 
 pub returns-then-h-t : goal.returns-then-h-t

@@ -4,16 +4,15 @@ use mathlib.Core.Bool.{true, false}
 use Prim.Native.Nat.{◌*◌, ◌<◌, ◌^◌}
 use native.Mathlib.Omega.{arith}
 use borrow.Author.Tests.{not-false, not-true}
-use Rattle.rules.specs.Record.{Queue, is_open}
+use Rattle.rules.specs.Record.{is_open}
 use Rattle.rules.specs.WellFormed.{broken, base_ok}
-use Rattle.rules.specs.Owning.{Owning, own_clause, size_allowed}
+use Rattle.rules.specs.Owning.{own_clause, size_allowed}
 use Rattle.views.specs.Tables.{tables_of, queue_of}
 use Rattle.tables.specs.Ready.{Ready}
 use Rattle.refusals.specs.Checked.{Indices, ready}
 use Rattle.owns.specs.Owns.{owning_of}
 use Rattle.owns.specs.Turns.{product_fits}
 use Rattle.owns.specs.Clauses.{unbroken, placed_ends, by_queue, by_open, by_base, by_size, by_own, by_held, by_none}
-use borrow.Author.Rules.{rules}
 use Rattle.owns.proofs.own_broken.Goals.{Else-is_open, Else-not-all_own, Else-not-base_ok, Else-not-size_allowed, Else-number-ne0, Start}
 use Rattle.owns.proofs.own_broken.Goals as goal
 

@@ -2,10 +2,8 @@
 use mathlib.Core.Path.{◌∙◌}
 use Prim.Native.Nat.{◌+◌, ◌*◌, ◌<◌, ◌^◌}
 use native.Mathlib.Omega.{arith}
-use Rattle.rules.specs.Record.{Queue}
 use Rattle.views.specs.Tables.{tables_of, queue_of}
 use Rattle.owns.specs.Turns.{product_fits, address_fits, own_given, own_none, own_some}
-use borrow.Author.Rules.{rules}
 use Rattle.owns.proofs.own_head.Goals as goal
 
 pub returns-then-noted_at-eq0 : goal.returns-then-noted_at-eq0

@@ -1,12 +1,10 @@
 -- `owns::poll_refusal` meets its contract: the record's check, then memory and store, then what is held.
 use mathlib.Core.Path.{◌≡◌, sym, ◌∙◌}
 use borrow.Author.Tests.{not-false, not-true}
-use Rattle.rules.specs.Record.{Queue}
-use Rattle.rules.specs.Owning.{Owning, own_broken}
+use Rattle.rules.specs.Owning.{own_broken}
 use Rattle.views.specs.Tables.{tables_of, queue_of}
 use Rattle.owns.specs.Owns.{owning_of}
 use Rattle.owns.specs.Refused.{poll_bad, poll_short, poll_told, poll_held}
-use borrow.Author.Rules.{rules}
 use Rattle.owns.proofs.poll_refusal.Goals.{Else-own_broken-ne0}
 use Rattle.owns.proofs.poll_refusal.Goals as goal
 

@@ -2,11 +2,8 @@
 use mathlib.Core.Path.{ap, ◌∙◌}
 use Rattle.rules.specs.Calls.{whole}
 use Rattle.refusals.specs.Checked.{Indices}
-use mathlib.Core.List.{List}
-use Rattle.virtio.specs.declared.Buffer.{Buffer}
 use Rattle.opens.specs.Given.{given}
 use Rattle.queue.specs.Going.{add_going}
-use borrow.Author.Rules.{rules}
 use Rattle.queue.proofs.add.Goals.{Start}
 use Rattle.queue.proofs.add.Goals as goal
 

@@ -1,11 +1,8 @@
 -- `queue::finish` meets its contract: a refusal stays, and an opened call takes n + 4 steps at most.
 use mathlib.Core.Path.{◌∙◌}
-use Rattle.virtio.specs.Memory.{Memory}
-use Rattle.rules.specs.Record.{Tables}
 use Rattle.views.specs.Tables.{tables_of}
 use Rattle.access.specs.Accesses.{memory}
 use Rattle.queue.specs.Going.{whole_no, whole_yes}
-use borrow.Author.Rules.{rules}
 use Rattle.queue.proofs.finish.Goals as goal
 
 pub returns-then-o-ne0 : goal.returns-then-o-ne0

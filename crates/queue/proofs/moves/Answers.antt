@@ -3,7 +3,6 @@ use mathlib.Core.Path.{◌≡◌, refl, sym, ap, ◌∙◌, subst}
 use mathlib.Core.Bool.{true}
 use Prim.Native.Nat.{◌+◌, ◌<◌}
 use native.Mathlib.Omega.{arith}
-use borrow.Author.Rules.{rules}
 use borrow.Author.Tests.{not-true, not-false}
 use Rattle.rules.specs.Record.{is_open}
 use Rattle.rules.specs.Calls.{opened, moves}
@@ -11,7 +10,7 @@ use Rattle.views.specs.Tables.{tables_of, queue_of}
 use Rattle.tables.specs.Ready.{Ready, Fitting}
 use Rattle.access.specs.Accesses.{memory}
 use Rattle.asks.specs.Outcomes.{done_of}
-use Rattle.queue.specs.Steps.{Running, Kept, ready_on, fitting_on, run_turn, run_closed, run_over}
+use Rattle.queue.specs.Steps.{Kept, ready_on, fitting_on, run_turn, run_closed, run_over}
 use Rattle.queue.proofs.moves.Goals.{After-unmoved-r}
 use Rattle.queue.proofs.moves.Goals as goal
 

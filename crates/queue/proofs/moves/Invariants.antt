@@ -1,17 +1,8 @@
 -- `queue::moves` meets its contract: the whole run is what is left of it from where the loop stands.
-use mathlib.Core.Path.{◌≡◌, refl, sym, ap, ◌∙◌, subst}
-use mathlib.Core.Bool.{true}
-use Prim.Native.Nat.{◌+◌, ◌<◌}
-use native.Mathlib.Omega.{arith}
-use borrow.Author.Rules.{rules}
-use borrow.Author.Tests.{not-true, not-false}
-use Rattle.rules.specs.Record.{is_open}
-use Rattle.rules.specs.Calls.{opened, moves}
-use Rattle.views.specs.Tables.{tables_of, queue_of}
-use Rattle.tables.specs.Ready.{Ready, Fitting}
+use Rattle.views.specs.Tables.{tables_of}
 use Rattle.access.specs.Accesses.{memory}
 use Rattle.asks.specs.Outcomes.{done_of}
-use Rattle.queue.specs.Steps.{Running, Kept, ready_on, fitting_on, run_turn, run_closed, run_over}
+use Rattle.queue.specs.Steps.{Running, Kept}
 use Rattle.queue.proofs.moves.Given as goal
 
 abbrev pub invariant-loop-left : goal.invariant-loop-left

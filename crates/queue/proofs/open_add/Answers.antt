@@ -1,12 +1,9 @@
 -- `queue::open_add` meets its contract: refused, or opened as the rules open it.
 use mathlib.Core.Path.{◌≡◌, sym, ap, ◌∙◌}
 use Rattle.lists.specs.Pick.{first}
-use Rattle.virtio.specs.Memory.{Memory}
 use Rattle.views.specs.Tables.{tables_of, queue_of}
 use Rattle.access.specs.Accesses.{memory}
-use mathlib.Core.List.{List}
-use Rattle.virtio.specs.declared.Buffer.{Buffer}
-use Rattle.rules.specs.Record.{Queue, Tables}
+use Rattle.rules.specs.Record.{Tables}
 use Rattle.rules.specs.Calls.{fits, add_refusal, add_opened, opened}
 use Rattle.laws.specs.Opening.{addable}
 use Rattle.tables.specs.Ready.{Ready}
@@ -17,7 +14,6 @@ use Rattle.asks.specs.Outcomes.{done_of}
 use Rattle.asks.specs.Refused.{says_no, says_yes}
 use Rattle.queue.specs.Opened.{add_opening}
 use Rattle.laws.specs.Allowed.{add_allowed}
-use borrow.Author.Rules.{rules}
 use Rattle.queue.proofs.open_add.Goals.{After-add_refusal-number, Start}
 use Rattle.queue.proofs.open_add.Goals as goal
 

@@ -1,18 +1,15 @@
 -- `queue::open_peek` meets its contract: refused, or opened.
 use mathlib.Core.Path.{◌≡◌, sym, ap, ◌∙◌}
-use borrow.Author.Rules.{rules}
 use Rattle.lists.specs.Pick.{first}
-use Rattle.virtio.specs.Memory.{Memory}
 use Rattle.views.specs.Tables.{tables_of, queue_of}
 use Rattle.access.specs.Accesses.{memory}
 use Rattle.rules.specs.declared.Open.TheVariants.{PeekIdx}
-use Rattle.rules.specs.Record.{Queue, with_call}
+use Rattle.rules.specs.Record.{with_call}
 use Rattle.rules.specs.Calls.{call_refusal, opened}
 use Rattle.rules.specs.Calls.{call_tests}
 use Rattle.asks.specs.Outcomes.{done_of}
 use Rattle.asks.specs.Refused.{says_no, says_yes}
 use Rattle.queue.specs.Opened.{peek_opening}
-use borrow.Author.Rules.{rules}
 use Rattle.queue.proofs.open_peek.Goals.{After-call_refusal-number}
 use Rattle.queue.proofs.open_peek.Goals as goal
 

@@ -1,15 +1,10 @@
 -- `queue::open_pop` meets its contract: refused, or opened with the token and whether the list matched.
 use mathlib.Core.Path.{◌≡◌, sym, ap, ◌∙◌}
-use borrow.Author.Rules.{rules}
 use Rattle.lists.specs.Pick.{first}
-use Rattle.virtio.specs.Memory.{Memory}
 use Rattle.views.specs.Tables.{tables_of, queue_of}
 use Rattle.access.specs.Accesses.{memory}
-use mathlib.Core.List.{List}
-use Rattle.virtio.specs.declared.Buffer.{Buffer}
 use Rattle.rules.specs.declared.Open.TheVariants.{PopIdx}
-use Rattle.rules.specs.Record.{Queue, with_call}
-use Rattle.rules.specs.Answer.{Outcome}
+use Rattle.rules.specs.Record.{with_call}
 use Rattle.rules.specs.Calls.{call_refusal, opened, matches}
 use Rattle.opens.specs.Given.{given}
 use Rattle.rules.specs.Calls.{call_tests}
@@ -18,7 +13,6 @@ use Rattle.refusals.specs.Checked.{Indices, ready}
 use Rattle.asks.specs.Outcomes.{done_of}
 use Rattle.asks.specs.Refused.{says_no, says_yes}
 use Rattle.queue.specs.Opened.{pop_opening}
-use borrow.Author.Rules.{rules}
 use Rattle.queue.proofs.open_pop.Goals.{After-call_refusal-number, Start}
 use Rattle.queue.proofs.open_pop.Goals as goal
 

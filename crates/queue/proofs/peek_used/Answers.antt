@@ -3,7 +3,6 @@ use mathlib.Core.Path.{ap, ◌∙◌}
 use Rattle.rules.specs.Calls.{whole}
 use Rattle.refusals.specs.Checked.{Indices}
 use Rattle.queue.specs.Going.{peek_going}
-use borrow.Author.Rules.{rules}
 use Rattle.queue.proofs.peek_used.Goals.{Start}
 use Rattle.queue.proofs.peek_used.Goals as goal
 

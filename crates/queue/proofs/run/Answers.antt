@@ -1,17 +1,14 @@
 -- `queue::run` meets its contract: refused, or the moves.
 use mathlib.Core.Path.{◌≡◌, sym, ap, ◌∙◌}
 use Rattle.lists.specs.Pick.{first}
-use Rattle.virtio.specs.Memory.{Memory}
 use Rattle.views.specs.Tables.{tables_of, queue_of}
 use Rattle.access.specs.Accesses.{memory}
-use Rattle.rules.specs.Record.{Queue}
 use Rattle.rules.specs.Calls.{fits, step_refusal, opened, moves}
 use Rattle.rules.specs.Calls.{step_tests}
 use Rattle.laws.specs.Allowed.{step_allowed}
 use Rattle.refusals.specs.Checked.{Indices, ready, fitting}
 use Rattle.asks.specs.Refused.{says_no, says_yes}
 use Rattle.queue.specs.Opened.{run_opening}
-use borrow.Author.Rules.{rules}
 use Rattle.queue.proofs.run.Goals.{After-step_refusal-number, Start}
 use Rattle.queue.proofs.run.Goals as goal
 

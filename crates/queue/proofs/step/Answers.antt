@@ -1,10 +1,7 @@
 -- `queue::step` meets its contract: an access, done, and the reaction to what it gave.
-use Rattle.virtio.specs.Memory.{Memory}
-use Rattle.rules.specs.Record.{Queue}
 use Rattle.views.specs.Tables.{tables_of, queue_of}
 use Rattle.access.specs.Accesses.{memory, access_of}
 use Rattle.queue.specs.Steps.{step_is}
-use borrow.Author.Rules.{rules}
 use Rattle.queue.proofs.step.Goals as goal
 
 pub next_access-a-requires : goal.next_access-a-requires

@@ -2,12 +2,10 @@
 use mathlib.Core.Path.{sym, ap, ◌∙◌}
 use Prim.Native.Nat.{ℕ}
 use native.Mathlib.Omega.{arith}
-use Rattle.virtio.specs.Memory.{Memory}
 use Rattle.access.specs.Accesses.{memory}
 use Rattle.owning.specs.Owned.{own_of}
 use Rattle.rules.specs.Owning.{released}
 use Rattle.owning.specs.Sound.{Sound, sound, begins, held_below}
-use borrow.Author.Rules.{rules}
 use Rattle.owning.proofs.Owning.give_back_held.Goals as goal
 
 pub give_back-requires : goal.give_back-requires

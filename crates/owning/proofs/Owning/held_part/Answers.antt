@@ -1,12 +1,11 @@
 -- The answer is the held part: none, or the first bytes of the held token's buffer.
 use mathlib.Core.Path.{◌≡◌}
-use Prim.Native.Nat.{ℕ, ◌+◌, ◌-◌, ◌*◌, ◌≤◌, ◌<◌, ◌^◌}
+use Prim.Native.Nat.{◌+◌, ◌-◌, ◌*◌, ◌≤◌, ◌<◌, ◌^◌}
 use native.Mathlib.Omega.{arith}
 use lib.ListN.{length}
 use Rattle.owns.specs.Turns.{product_fits}
 use Rattle.owning.specs.Owned.{own_of}
 use Rattle.owning.specs.Sound.{held_ends}
-use borrow.Author.Rules.{rules}
 use Rattle.owning.proofs.Owning.held_part.Goals.{After-struct_known-1}
 use Rattle.owning.proofs.Owning.held_part.Goals as goal
 

@@ -3,13 +3,11 @@ use mathlib.Core.Path.{◌≡◌, sym, ap, ◌∙◌}
 use Prim.Native.Nat.{◌*◌, ◌<◌, ◌^◌}
 use native.Mathlib.Omega.{arith}
 use Rattle.lists.specs.Pick.{first}
-use Rattle.virtio.specs.Memory.{Memory}
 use Rattle.rules.specs.Owning.{own_new_tests, own_new_refusal}
 use Rattle.access.specs.Accesses.{memory}
 use Rattle.record.specs.Abs.{abs}
 use Rattle.owns.specs.Turns.{product_fits}
 use Rattle.owning.specs.Making.{new_no, new_yes, store_does}
-use borrow.Author.Rules.{rules}
 use Rattle.owning.proofs.Owning.new.Goals.{After-new_number-number, Else-number-ne0}
 use Rattle.owning.proofs.Owning.new.Goals as goal
 

@@ -1,13 +1,11 @@
 -- `owning::Owning::poll` meets its contract: refused by its number, or gone on with.
 use mathlib.Core.Path.{◌≡◌, sym, ap, ◌∙◌}
-use Rattle.virtio.specs.Memory.{Memory}
 use Rattle.access.specs.Accesses.{memory}
 use Rattle.owning.specs.Owned.{own_of}
 use Rattle.lists.specs.Pick.{first}
 use Rattle.rules.specs.Owning.{poll_tests, poll_refusal}
 use Rattle.laws.specs.OwnViews.{PollAllowed, poll_allowed}
 use Rattle.owning.specs.Cases.{poll_no, poll_yes}
-use borrow.Author.Rules.{rules}
 use Rattle.owning.proofs.Owning.poll.Goals.{After-poll_number-number, Else-number-ne0}
 use Rattle.owning.proofs.Owning.poll.Goals as goal
 

@@ -1,13 +1,11 @@
 -- `owning::Owning::release` meets its contract: refused by its number, or gone on with.
 use mathlib.Core.Path.{◌≡◌, sym, ap, ◌∙◌}
-use Rattle.virtio.specs.Memory.{Memory}
 use Rattle.access.specs.Accesses.{memory}
 use Rattle.owning.specs.Owned.{own_of}
 use Rattle.lists.specs.Pick.{first}
 use Rattle.rules.specs.Owning.{release_tests, release_refusal}
 use Rattle.laws.specs.OwnViews.{release_allowed}
 use Rattle.owning.specs.Cases.{release_no, release_yes}
-use borrow.Author.Rules.{rules}
 use Rattle.owning.proofs.Owning.release.Goals.{After-release_number-number, Else-number-ne0}
 use Rattle.owning.proofs.Owning.release.Goals as goal
 

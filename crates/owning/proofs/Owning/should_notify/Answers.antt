@@ -1,10 +1,8 @@
 -- A broken record is refused, and any other's question goes to the queue.
 use mathlib.Core.Path.{sym, ◌∙◌}
-use Rattle.virtio.specs.Memory.{Memory}
 use Rattle.access.specs.Accesses.{memory}
 use Rattle.owning.specs.Owned.{own_of}
 use Rattle.owning.specs.Cases.{notify_no, notify_yes}
-use borrow.Author.Rules.{rules}
 use Rattle.owning.proofs.Owning.should_notify.Goals as goal
 
 pub returns-then-broken-ne0 : goal.returns-then-broken-ne0

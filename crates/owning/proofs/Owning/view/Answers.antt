@@ -8,7 +8,6 @@ use Rattle.owns.specs.Refused.{own_well}
 use Rattle.owns.specs.Turns.{product_fits}
 use Rattle.owning.specs.Owned.{own_of}
 use Rattle.owning.specs.Cases.{view_broken, view_short}
-use borrow.Author.Rules.{rules}
 use Rattle.owning.proofs.Owning.view.Goals.{Else-broken-ne0}
 use Rattle.owning.proofs.Owning.view.Goals as goal
 
