@@ -9,13 +9,13 @@ use Rattle.record.specs.Abs.{abs, Arrays, abs_fixes}
 use Rattle.owning.specs.declared.Owning.{Owning}
 use Rattle.owning.specs.declared.Owned.{Owned}
 use Rattle.owning.specs.declared.Shows.{Shows}
-use Rattle.owning.specs.declared.Shows.TheVariants.{Part, Nothing as None}
+use Rattle.owning.specs.declared.Shows.TheVariants.{Part, Nothing as NoPart}
 
 abbrev pub own_of : Owning → rule.Owning
 own_of o = record { queue = abs o.queue; base = o.base; size = o.size; held = o.held }
 
 abbrev pub view_of : Shows → rule.View
-view_of None = rule.no_view
+view_of NoPart = rule.no_view
 view_of (Part from count) = rule.part from count
 
 abbrev pub owned_of : Owned → Memory → List ℕ → rule.Owned
@@ -36,11 +36,11 @@ added_of q m = record { answer = 0; value = 0; steps = 0; queue = q; memory = m 
 
 -- the struct's part of a rule's view
 abbrev shows_of : rule.View → Shows
-shows_of rule.no_view = None
+shows_of rule.no_view = NoPart
 shows_of (rule.part from count) = Part from count
 
 shows_back : (v : Shows) → shows_of (view_of v) ≡ v
-shows_back None = refl
+shows_back NoPart = refl
 shows_back (Part from count) = refl
 
 shows_one : (v w : Shows) → view_of v ≡ view_of w → v ≡ w
