@@ -1,1 +1,2 @@
 // No code. specs/ has what follows from the rules alone.
+#![tactic(auto)]

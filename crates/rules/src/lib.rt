@@ -1,4 +1,5 @@
 // No code: the driver's rules (document 01) in specs/, and here the plain types of the record that rules and code share.
+#![tactic(auto)]
 
 // What was negotiated: indirect lists, event indices, and the legacy layout.
 #[derive(Clone, Copy)]

@@ -1,5 +1,7 @@
 // How the record is stored: here its plain fields as a struct, and in specs/ the private tables as lists of words, what the code reads of them, and the
 // rules' record that both say together. No code.
+#![tactic(auto)]
+
 use rules::{Modes, Open};
 
 // The record's fields beside its tables.
