@@ -58,11 +58,11 @@ module _ {before after : List ℕ} {at : ℕ} (said : List ℕ) where
       let same : said ++ a ++ b ++ c ≡ said ++ (a ++ b ++ c) = simp append_assoc in
       subst (λ (t : List ℕ). Written before after at t) same w
 
-  pub five-pieces
+  pub five_pieces
       : (a b c d e : List ℕ)
       → Written before after at (said ++ a ++ b ++ c ++ d ++ e)
       → Written before after at (said ++ (a ++ b ++ c ++ d ++ e))
-  five-pieces a b c d e w =
+  five_pieces a b c d e w =
       let same : said ++ a ++ b ++ c ++ d ++ e ≡ said ++ (a ++ b ++ c ++ d ++ e) = simp append_assoc in
       subst (λ (t : List ℕ). Written before after at t) same w
 
