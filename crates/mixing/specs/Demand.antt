@@ -1,4 +1,4 @@
--- DEMAND 3, stated; Proof proves it. Take a fresh queue, of any allowed size, modes and layout, one device that keeps the rules, and any list of events of the two.
+-- DEMAND 3, stated; proofs/Proved proves it. Take a fresh queue, of any allowed size, modes and layout, one device that keeps the rules, and any list of events of the two.
 -- Where it leaves nothing half done, some order of unmixed operations leaves the very same trace: what each side did, in its own order, what it was
 -- answered, took and saw, how many steps each call took, and the record and every byte of memory at the end.
 use Rattle.std.specs.Prelude.{◌≡◌, false, List, [], ◌∷◌, ◌++◌, ℕ, ◌+◌, replicate}
