@@ -1,23 +1,19 @@
--- What `gather` makes of a lent list, the short list that stands for it in the calls, and that the calls answer both alike.
+-- What `gather` makes of a lent list, and the short list that stands for it in the calls; that the calls answer both alike is proved in proofs/Stands.
 use Rattle.std.specs.Prelude.{◌≡◌, refl, Bool, true, false, not, cond, ◌||◌, ◌&&◌, ltb, eqb, take, drop, set, replicate}
-use Rattle.std.proofs.Common.{sym, ◌∙◌, arith, lt-ltb, le-ltb, ltb-true, ltb-false, length-set, drop-cons, length-take-le, get_or-take, get_or-set_same, ext_get_or}
+use Rattle.std.proofs.Common.{sym, ◌∙◌, arith, lt-ltb, le-ltb, ltb-false, length-set, drop-cons, length-take-le, get_or-take, get_or-set_same, ext_get_or}
 use Rattle.std.proofs.Math.Path.{ap}
 use mathlib.Core.List.{List, [], ◌∷◌}
 use Prim.Native.Nat.{ℕ, zero, suc, ◌≤◌, ◌<◌}
 use Rattle.std.proofs.Math.ListN.{length, get_or, length-replicate}
-use Rattle.std.proofs.Math.Seq.{drop-length, get_or-set_other, set_out}
-use Rattle.lists.specs.Pick.{one_if, rising}
+use Rattle.std.proofs.Math.Seq.{get_or-set_other, set_out}
+use Rattle.lists.specs.Pick.{one_if}
 use Rattle.lists.specs.Tests.{by_test, by_eq}
 use Rattle.virtio.specs.declared.Buffer.{Buffer}
 use Rattle.virtio.specs.Desc.{no_buffer}
-use Rattle.virtio.specs.Memory.{Memory}
 use Rattle.virtio.specs.Chain.{all_outputs, in_order}
-use Rattle.rules.specs.Record.{Queue}
-use Rattle.rules.specs.Calls.{open_add, open_pop, whole, add, pop_used}
 use Rattle.opens.specs.Given.{buffer_in, given}
 use Rattle.opens.specs.Turns.{given_length, given_at}
 use Rattle.buffers.specs.declared.Gathered.{Gathered}
-use Rattle.buffers.specs.Long.{open_add_long, open_pop_long}
 
 -- ---- the copy
 
@@ -107,7 +103,7 @@ filled_next xs i = refl
 
 -- ---- what the arrays hold
 
-filled_count : (xs : List Buffer) (i : ℕ) → (filled xs i).count ≡ length xs
+pub filled_count : (xs : List Buffer) (i : ℕ) → (filled xs i).count ≡ length xs
 unfolding filled
 filled_count xs zero = refl
 filled_count xs (suc i) = filled_count xs i
@@ -130,7 +126,7 @@ module _ (field : Gathered → List ℕ) (part : Buffer → ℕ) (begins : (n : 
       (λ e. rw e (get_or-set_same (field (filled xs i)) i (part (get_or xs i no_buffer)) 0 (omega arith)))
       (λ e. get_or-set_other (field (filled xs i)) i j (part (get_or xs i no_buffer)) 0 e ∙ field_at xs i j (omega arith) u)
 
-addrs_length : (xs : List Buffer) (i : ℕ) → length (filled xs i).addrs ≡ 65
+pub addrs_length : (xs : List Buffer) (i : ℕ) → length (filled xs i).addrs ≡ 65
 addrs_length = field_length (λ g. g.addrs) (λ b. b.addr) (λ n. refl) (λ g i b. refl)
 
 -- ---- a list of at most 64 buffers is had whole
@@ -152,7 +148,7 @@ module _ (xs : List Buffer) (short : length xs ≤ 64) where
       let d : not (eqb (get_or copy.outs i 0) 0) ≡ (get_or xs i no_buffer).output = ap (λ x. not (eqb x 0)) o ∙ side_back (get_or xs i no_buffer).output in
       λ k. record { addr = a k; len = s k; output = d k }
 
-  short_is : stands_for copy ≡ xs
+  pub short_is : stands_for copy ≡ xs
   short_is =
       let n : copy.count ≡ length xs = filled_count xs (length xs) in
       let k : length (take (length xs) copy.addrs) ≡ length xs = length-take-le (length xs) copy.addrs (let l : length copy.addrs ≡ 65 = addrs_length xs (length xs) in omega arith) in
@@ -165,7 +161,7 @@ module _ (xs : List Buffer) (short : length xs ≤ 64) where
 -- ---- of a longer one, the order
 
 -- what is left to ask of the order, when some sides are noted
-abbrev order_left : Bool → Bool → List Buffer → Bool
+abbrev pub order_left : Bool → Bool → List Buffer → Bool
 order_left mixed written bs = cond mixed false (cond written (all_outputs bs) (in_order bs))
 
 order_turn : (mixed written : Bool) (b : Buffer) (bs : List Buffer)
@@ -175,7 +171,7 @@ order_turn true written b bs = refl
 order_turn false true b bs = by_test b.output (λ e. rw e) (λ e. rw e)
 order_turn false false b bs = by_test b.output (λ e. rw e) (λ e. rw e)
 
-order_so_far : (xs : List Buffer) (i : ℕ) → i ≤ length xs → in_order xs ≡ order_left (filled xs i).mixed (filled xs i).written (drop i xs)
+pub order_so_far : (xs : List Buffer) (i : ℕ) → i ≤ length xs → in_order xs ≡ order_left (filled xs i).mixed (filled xs i).written (drop i xs)
 unfolding filled
 order_so_far xs zero l = refl
 order_so_far xs (suc i) l =
@@ -183,58 +179,8 @@ order_so_far xs (suc i) l =
     ∙ (ap (order_left (filled xs i).mixed (filled xs i).written) (drop-cons xs i no_buffer l)
     ∙ order_turn (filled xs i).mixed (filled xs i).written (get_or xs i no_buffer) (drop (suc i) xs))
 
-order_end : (mixed written : Bool) → order_left mixed written [] ≡ not mixed
+pub order_end : (mixed written : Bool) → order_left mixed written [] ≡ not mixed
 unfolding all_outputs in_order
 order_end true written = refl
 order_end false true = refl
 order_end false false = refl
-
-mixed_is : (xs : List Buffer) → in_order xs ≡ not (gathered xs).mixed
-mixed_is xs =
-    order_so_far xs (length xs) (omega arith)
-    ∙ (ap (order_left (gathered xs).mixed (gathered xs).written) (drop-length xs) ∙ order_end (gathered xs).mixed (gathered xs).written)
-
--- 65 buffers, the first of them an output or none
-order_of : (mixed : Bool) (addrs sizes : List ℕ) → length addrs ≡ 65 → in_order (given addrs sizes (set (replicate 65 0) 0 (one_if mixed))) ≡ not mixed
-unfolding given rising in_order all_outputs
-order_of true addrs sizes e = rw e
-order_of false addrs sizes e = rw e
-
-module _ (xs : List Buffer) (long : 64 < length xs) where
-  long_is : stands_for (gathered xs) ≡ given (take 65 (gathered xs).addrs) (gathered xs).sizes (set (replicate 65 0) 0 (one_if (gathered xs).mixed))
-  long_is =
-      let n : (gathered xs).count ≡ length xs = filled_count xs (length xs) in
-      ap list_of (ap (λ t. cond t (cut (gathered xs)) (gathered xs)) (lt-ltb 64 (gathered xs).count (omega arith)))
-
-  first_65 : length (take 65 (gathered xs).addrs) ≡ 65
-  first_65 = length-take-le 65 (gathered xs).addrs (let l : length (gathered xs).addrs ≡ 65 = addrs_length xs (length xs) in omega arith)
-
-  long_length : 64 < length (stands_for (gathered xs))
-  long_length =
-      let e : length (stands_for (gathered xs)) ≡ 65 = ap length long_is ∙ (given_length _ _ _ ∙ first_65) in
-      omega arith
-
-  long_order : in_order (stands_for (gathered xs)) ≡ in_order xs
-  long_order =
-      ap in_order long_is ∙ (order_of (gathered xs).mixed (take 65 (gathered xs).addrs) (gathered xs).sizes first_65 ∙ sym (mixed_is xs))
-
--- ---- THE LAWS: the calls answer the list that stands for it as they answer the list
-
-module _ (q : Queue) (m : Memory) (xs : List Buffer) where
-  pub open_add_stands : open_add q m (stands_for (gathered xs)) ≡ open_add q m xs
-  open_add_stands =
-      by_test (ltb 64 (length xs))
-      (λ e. let l : 64 < length xs = ltb-true 64 (length xs) e in open_add_long q m (stands_for (gathered xs)) xs (long_length xs l) l (long_order xs l))
-      (λ e. ap (open_add q m) (short_is xs (ltb-false 64 (length xs) e)))
-
-  pub open_pop_stands : (t : ℕ) → open_pop q m t (stands_for (gathered xs)) ≡ open_pop q m t xs
-  open_pop_stands t =
-      by_test (ltb 64 (length xs))
-      (λ e. let l : 64 < length xs = ltb-true 64 (length xs) e in open_pop_long q m (stands_for (gathered xs)) xs (long_length xs l) l t)
-      (λ e. ap (open_pop q m t) (short_is xs (ltb-false 64 (length xs) e)))
-
-  pub add_stands : add q m (stands_for (gathered xs)) ≡ add q m xs
-  add_stands = ap (whole q.n) open_add_stands
-
-  pub pop_stands : (t : ℕ) → pop_used q m t (stands_for (gathered xs)) ≡ pop_used q m t xs
-  pop_stands t = ap (whole q.n) (open_pop_stands t)

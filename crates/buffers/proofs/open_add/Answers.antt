@@ -7,7 +7,8 @@ use Rattle.rules.specs.Calls.{open_add}
 use Rattle.access.specs.Accesses.{memory}
 use Rattle.record.specs.Abs.{abs}
 use Rattle.buffers.specs.declared.Gathered.{Gathered}
-use Rattle.buffers.specs.Gather.{stands_for, open_add_stands}
+use Rattle.buffers.specs.Gather.{stands_for}
+use Rattle.buffers.proofs.Stands.{open_add_stands}
 use Rattle.buffers.proofs.open_add.Goals as goal
 
 pub returns : goal.returns

@@ -7,7 +7,8 @@ use Rattle.rules.specs.Calls.{pop_used}
 use Rattle.access.specs.Accesses.{memory}
 use Rattle.record.specs.Abs.{abs}
 use Rattle.buffers.specs.declared.Gathered.{Gathered}
-use Rattle.buffers.specs.Gather.{stands_for, pop_stands}
+use Rattle.buffers.specs.Gather.{stands_for}
+use Rattle.buffers.proofs.Stands.{pop_stands}
 use Rattle.buffers.proofs.pop_used.Goals as goal
 
 pub returns : goal.returns
