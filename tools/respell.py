@@ -1,9 +1,9 @@
 #!/usr/bin/env python3
 """Respells the repository's own definitions and lemmas as today's Rattle spells names: words in snake case, types in camel case.
 
-Run once, at the top, right after port.py. A name that specs/ or proofs/ declares and that has a dash or an inner capital is respelled wherever it stands in
+Run once, at the top, right after port.py; a repository with docs/PORT.md has been respelled, and is left as it is. A name that specs/ or proofs/ declares and that has a dash or an inner capital is respelled wherever it stands in
 .antt, .rt, .edit and .md files; names that Rattle makes of a function's goals keep their dashes. With --list it only prints the pairs."""
-import glob, re, sys
+import glob, os, re, sys
 
 WORD = re.compile(r"[A-Za-z0-9_'\-₀-₉α-κμ-ω]+")
 MODIFIERS = re.compile(r"^(?:(?:pub|abbrev|unfoldable|opaque|data|record|ruleset) )*")
@@ -128,6 +128,8 @@ def main():
         for a, b in sorted(names.items()):
             print(a, b)
         return
+    if os.path.exists("docs/PORT.md"):
+        sys.exit("respell: docs/PORT.md is there, so that the names are respelled already")
     for path in antt_files() + sorted(glob.glob("crates/*/src/*.rt") + glob.glob("crates/*/must-fail/*.edit")):
         local = {**names, **CHOSEN_IN.get(path, {})}
         if path.endswith(("Proof.antt", "Answers.antt", "Invariants.antt")):

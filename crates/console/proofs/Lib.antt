@@ -1,3 +1,3 @@
 -- What the proofs of this crate share.
---   Powers  powers of ten, and how many digits a number takes
-mod Powers
+--   Count  that a number takes one count of digits
+mod Count

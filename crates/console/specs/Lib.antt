@@ -1,5 +1,3 @@
 -- What this crate's contracts cite.
---   Counts  how much of a buffer was filled
---   Digits  a number as text
-pub mod Counts
+--   Digits  what a number adds to what a writer holds
 pub mod Digits

@@ -1,35 +1,23 @@
-// What programs print and read over std's writers and readers: a number in decimal, a whole input, and a large buffer to read it to.
+// What programs print and read, over std's writers and readers: a number in decimal, a whole input, and a large buffer to read it to.
 #![tactic(auto)]
 
-ghost use Rattle.std.specs.Prelude.{◌≡◌, ◌<◌, ◌≤◌, OnOk, length, take, drop};
+ghost use Rattle.std.specs.Prelude.{◌≡◌, ◌<◌, ◌≤◌, OnOk, length, take};
 ghost use Rattle.std.specs.Io.KnownBytes.{Consumes, IsAtEnd};
-ghost use Rattle.console.specs.Counts.{IsPrefixLen};
-ghost use Rattle.console.specs.Digits.{last_digits, IsDigitCount, hex_digit_ascii, AppendsDecimal};
+ghost use Rattle.io.specs.Counts.{IsPrefixLen};
+ghost use Rattle.console.specs.Digits.{AppendsDecimal};
 
-use std::io;
+use io::decimal;
 use std::io::{Read, Write};
 
-// 65,536 zeros. The `ensures` gives only the length, which lending the array as a slice needs.
+// Room for a whole input of the programs, all zeros.
 pub fn large_buffer() -> [u8; 65536]
     ensures { 65536 ≡ length result }
 {
     [0; 65536]
 }
 
-// Puts n's decimal digits at the start of out, and returns how many there are.
-pub fn decimal(n: u64, out: &mut [u8; 20]) -> usize
-    ensures in_bounds { IsPrefixLen result out.new }
-    ensures len { IsDigitCount 10 1 n result }
-    ensures digits { take result out.new ≡ last_digits 10 result n }
-    ensures rest { drop result out.new ≡ drop result out.old }
-{
-    let k = digit_count(n);
-    write_digits(n, k, out);
-    k
-}
-
-// Writes n in decimal, with no line end.
-pub fn print_decimal<W: Write>(to: &mut W, n: u64) -> io::Result<()>
+// Writes n in decimal, without a newline.
+pub fn print_decimal<W: Write>(to: &mut W, n: u64) -> std::io::Result<()>
     ensures { OnOk result (AppendsDecimal (W.contents to.old) (W.contents to.new) n) }
 {
     let mut text = [0u8; 20];
@@ -37,8 +25,8 @@ pub fn print_decimal<W: Write>(to: &mut W, n: u64) -> io::Result<()>
     to.write_all(&text[..k])
 }
 
-// Reads until buf is full, the input ends or a read fails. Returns how many bytes it put at the start of buf, and whether a read failed after them.
-pub fn read_full<R: Read>(from: &mut R, buf: &mut [u8]) -> (usize, io::Result<()>)
+// Fills buf from its start, as far as the input goes. Answers how many bytes came, and whether a read failed behind them.
+pub fn read_full<R: Read>(from: &mut R, buf: &mut [u8]) -> (usize, std::io::Result<()>)
     ensures in_bounds { IsPrefixLen result.0 buf.new }
     ensures bytes { Consumes (R.remaining from.old) (R.remaining from.new) (take result.0 buf.new) }
     ensures whole { OnOk result.1 (result.0 < length buf.new → IsAtEnd (R.remaining from.new)) }
@@ -52,34 +40,6 @@ pub fn read_full<R: Read>(from: &mut R, buf: &mut [u8]) -> (usize, io::Result<()
         }
     }
     (done, Ok(()))
-}
-
-// How many decimal digits n takes.
-fn digit_count(n: u64) -> usize
-    ensures { IsDigitCount 10 1 n result }
-{
-    let mut k = 1;
-    let mut rest = n / 10;
-    while rest > 0 {
-        rest /= 10;
-        k += 1;
-    }
-    k
-}
-
-// Puts the last k decimal digits of n at the start of out.
-fn write_digits(n: u64, k: usize, out: &mut [u8])
-    requires { k ≤ length out.old }
-    ensures digits { take k out.new ≡ last_digits 10 k n }
-    ensures rest { drop k out.new ≡ drop k out.old }
-{
-    let mut i = k;
-    let mut rest = n;
-    while i > 0 {
-        i -= 1;
-        out[i] = b'0' + (rest % 10) as u8;
-        rest /= 10;
-    }
 }
 
 #[cfg(test)]
@@ -132,8 +92,8 @@ mod tests {
     struct Broken;
 
     impl Read for Broken {
-        fn read(&mut self, _buf: &mut [u8]) -> io::Result<usize> {
-            Err(io::Error::from(io::ErrorKind::Other))
+        fn read(&mut self, _buf: &mut [u8]) -> std::io::Result<usize> {
+            Err(std::io::Error::from(std::io::ErrorKind::Other))
         }
     }
 

@@ -1,4 +1,4 @@
--- Laws of written text: what one more byte leaves, pieces as one text, and that console's digits of a number are the decimal that is printed.
+-- Laws of written text: what one more byte leaves, pieces as one text, and that io's digits of a number are the decimal that is printed.
 use Rattle.std.specs.Prelude.{◌≡◌, List, [], ◌∷◌, ◌++◌, ℕ, zero, suc, ◌+◌, ◌-◌, ◌*◌, ◌/◌, ◌%◌, ◌^◌, ◌≤◌, ◌<◌, min, leb, length, take, set}
 use Rattle.std.proofs.Common.{sym, ap, ◌∙◌, subst, append_assoc, pow-suc, arith, lt-ltb, le-ltb, leb-true, leb-false, length-take, length-append, take_all}
 use Rattle.std.proofs.Math.Nat.{one-le-pow, pow-le-pow_right}
@@ -6,7 +6,7 @@ use Rattle.std.proofs.lemmas.List.Edits.{sets}
 use Rattle.std.proofs.Math.Seq.{length-sets}
 use Rattle.std.proofs.lemmas.List.{take-append-le}
 use Rattle.lists.specs.Tests.{by_test}
-use Rattle.console.specs.Digits.{last_digits, hex_digit_ascii, IsDigitCount}
+use Rattle.io.specs.Digits.{last_digits, hex_digit_ascii, IsDigitCount}
 use Rattle.print.specs.Print.{decimal_of, decimal, Written}
 
 -- ---- one more byte

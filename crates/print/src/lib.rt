@@ -1,12 +1,12 @@
 // Writes text to lent bytes, as far as there is room: words, numbers, lines, and the five lines of a call; and what was written to a writer.
 #![tactic(auto)]
 
-ghost use Rattle.std.specs.Prelude.{ℕ, List, [], ◌∷◌, ◌++◌, ◌≤◌, OnOk, length, take};
+ghost use Rattle.std.specs.Prelude.{◌≡◌, ℕ, List, [], ◌∷◌, ◌++◌, ◌≤◌, ◌<◌, IsTrue, OnOk, is_ok, length, take};
 ghost use Rattle.std.specs.Io.KnownBytes.{Appends};
 ghost use Rattle.print.specs.Words.{word_answer, word_value, word_steps, word_free};
 ghost use Rattle.print.specs.Print.{Written, decimal as decimal_is, field_line};
 
-use std::io;
+use io::decimal;
 use std::io::Write;
 
 // Puts a byte at this place, if there is room, and answers where the next one goes.
@@ -43,7 +43,7 @@ pub fn put_number(out: &mut [u8], at: usize, value: u64) -> usize
         → Written before out.new result (said ++ decimal_is value) }
 {
     let mut text = [0u8; 20];
-    let count = console::decimal(value, &mut text);
+    let count = decimal(value, &mut text);
     put_text(out, at, &text[..count])
 }
 
@@ -85,8 +85,9 @@ pub fn put_report(
 }
 
 // Writes the first `count` bytes, and nothing where there are fewer.
-pub fn write_first<W: Write>(to: &mut W, s: &[u8], count: usize) -> io::Result<()>
-    ensures { count ≤ length s.now → OnOk result (Appends (W.contents to.old) (W.contents to.new) (take count s.now)) }
+pub fn write_first<W: Write>(to: &mut W, s: &[u8], count: usize) -> std::io::Result<()>
+    ensures first { count ≤ length s.now → OnOk result (Appends (W.contents to.old) (W.contents to.new) (take count s.now)) }
+    ensures fewer { length s.now < count → (to.new ≡ to.old) × IsTrue (is_ok result) }
 {
     if count <= s.len() {
         to.write_all(&s[..count])?;

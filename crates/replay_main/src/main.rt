@@ -3,7 +3,7 @@
 
 ghost use Rattle.std.specs.Prelude.{◌≡◌, ◌≤◌, OnOk, length, take};
 ghost use Rattle.std.specs.Io.KnownBytes.{Appends};
-ghost use Rattle.console.specs.Counts.{IsPrefixLen};
+ghost use Rattle.io.specs.Counts.{IsPrefixLen};
 ghost use Rattle.replay.specs.Replay.{transcript};
 ghost use Rattle.replay.specs.Length.{longest};
 

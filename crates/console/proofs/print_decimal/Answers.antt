@@ -2,8 +2,8 @@ use Rattle.std.proofs.Common.{subst, ap, ◌∙◌}
 use Rattle.std.specs.Prelude.{ℕ}
 use Rattle.std.specs.Io.KnownBytes.{Appends}
 use Rattle.std.proofs.lemmas.Result.{on_ok_weaker}
-use Rattle.console.specs.Digits.{last_digits}
-use Rattle.console.proofs.Powers.{digit_count_one}
+use Rattle.io.specs.Digits.{last_digits}
+use Rattle.console.proofs.Count.{digit_count_one}
 use Rattle.console.proofs.print_decimal.Goals as goal
 
 pub returns : goal.returns

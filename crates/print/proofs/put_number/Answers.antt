@@ -1,4 +1,4 @@
--- `put_number` meets its contract: the digits that console makes of the number are its decimal.
+-- `put_number` meets its contract: the digits that io makes of the number are its decimal.
 use Rattle.std.proofs.Common.{◌≡◌, ◌∙◌, subst, List, ◌++◌, ℕ, ◌<◌, ◌^◌, arith, take}
 use Rattle.print.specs.Print.{Written, decimal}
 use Rattle.print.specs.Laws.{decimal_is_lem}
