@@ -2,147 +2,131 @@
 // an edit of them is soon tried; and what every call over lent words answers.
 #![tactic(auto)]
 
-ghost use Rattle.std.specs.Prelude.{◌≡◌, cond};
-ghost use Rattle.lists.specs.Pick.{one_if};
-ghost use Rattle.rules.specs.Calls.{can_pop, should_notify, set_dev_notify};
-ghost use Rattle.views.specs.Tables.{tables_of, queue_of};
-ghost use Rattle.wellformed.specs.Room.{Room};
+ghost use Rattle.std.specs.Prelude.{◌≡◌, cond, Ok, Err, OnOk};
+ghost use Rattle.rules.specs.Refused.{result_number};
+ghost use Rattle.rules.specs.Calls.{call_refusal, can_pop, should_notify, set_dev_notify};
+ghost use Rattle.views.specs.Tables.{queue_of};
+ghost use Rattle.tables.specs.Lent.{tables_read};
+ghost use Rattle.tables.specs.Ready.{ReadyRead, Fitting};
+ghost use Rattle.wellformed.specs.Room.{HasRoom};
 ghost use Rattle.access.specs.Accesses.{memory};
 ghost use Rattle.asks.specs.Outcomes.{done_of};
 
-use access::load_used16;
-use fields::store16;
+use access::load_used;
+use fields::store;
 use indices::after;
 use layout::avail_at;
-use refusals::{call_refusal, fits};
+use refusals::{fits, may_call};
+use rules::Refusal;
+use tables::TablesRef;
 use views::Core;
 
-// What a call answers: the number, the value, how many loads and stores were made; and the plain fields after it.
+// What a call answers: its value or its refusal, and how many loads and stores were made; and the plain fields after it.
 #[derive(Clone, Copy)]
 pub struct Done {
     pub core: Core,
-    pub answer: u8,
-    pub value: u32,
+    pub outcome: Result<u32, Refusal>,
     pub steps: u32,
 }
 
-// An answer before any access: a refusal by its number, or 0 for a call that was opened.
-pub fn unmoved(core: Core, answer: u8) -> Done
-    ensures { result ≡ record { core = core; answer = answer; value = 0; steps = 0 } }
-{
-    Done {
-        core,
-        answer,
-        value: 0,
-        steps: 0,
+impl Done {
+    // A call that is refused before any access.
+    pub fn refused(core: Core, refusal: Refusal) -> Done
+        ensures { result ≡ record { core = core; outcome = Err refusal; steps = 0 } }
+    {
+        Done {
+            core,
+            outcome: Err(refusal),
+            steps: 0,
+        }
+    }
+
+    // A call that has its value after so many steps.
+    fn answered(core: Core, steps: u32, value: u32) -> Done
+        ensures { result ≡ record { core = core; outcome = Ok value; steps = steps } }
+    {
+        Done {
+            core,
+            outcome: Ok(value),
+            steps,
+        }
+    }
+
+    // A call that was just opened.
+    pub fn opened(core: Core) -> Done
+        ensures { result ≡ record { core = core; outcome = Ok 0; steps = 0 } }
+    {
+        Done::answered(core, 0, 0)
     }
 }
 
-// What a call of a single step, or of none, answers.
-fn answered(core: Core, steps: u32, value: u32) -> Done
-    ensures { result ≡ record { core = core; answer = 0; value = value; steps = steps } }
+// Whether a call may be made over these bytes, before its own tests.
+pub fn may_begin(c: Core, t: &TablesRef, one: &[u8], two: &[u8], pool: &[u8]) -> Result<(), Refusal>
+    requires { HasRoom c t.now.room }
+    ensures number { result_number result ≡ call_refusal (queue_of c (tables_read t.now)) (memory one.now two.now pool.now) }
+    ensures ready { OnOk result (ReadyRead c t.now) }
+    ensures fitting { OnOk result (Fitting c one.now two.now pool.now) }
 {
-    Done {
-        core,
-        answer: 0,
-        value,
-        steps,
-    }
-}
-
-// 1 for true.
-fn one_if(b: bool) -> u32
-    ensures { result ≡ one_if b }
-{
-    if b { 1 } else { 0 }
+    may_call(c, t, fits(c, one.len(), two.len(), pool.len()))
 }
 
 // Whether the device has given back a chain: the value is 1 or 0.
-pub fn can_pop<'a>(
-    c: Core,
-    room: usize,
-    words: &[u64],
-    lens: &[u32],
-    halves: &[u16],
-    sides: &[bool],
-    one: &'a [u8],
-    two: &'a [u8],
-    pool: &[u8],
-) -> Done
-    requires { Room c room words.now lens.now halves.now sides.now }
-    ensures { done_of result (tables_of room words.now lens.now halves.now sides.now) (memory one.now two.now pool.now) ≡ can_pop (queue_of c (tables_of room words.now lens.now halves.now sides.now)) (memory one.now two.now pool.now) }
+pub fn can_pop(c: Core, t: &TablesRef, one: &[u8], two: &[u8], pool: &[u8]) -> Done
+    requires { HasRoom c t.now.room }
+    ensures { done_of result (tables_read t.now) (memory one.now two.now pool.now) ≡ can_pop (queue_of c (tables_read t.now)) (memory one.now two.now pool.now) }
 {
-    let fit = fits(c, one.len(), two.len(), pool.len());
-    let number = call_refusal(c, room, words, lens, halves, sides, fit);
-    if number != 0 {
-        return unmoved(c, number);
+    match may_begin(c, t, one, two, pool) {
+        Err(refusal) => Done::refused(c, refusal),
+        Ok(()) => {
+            let idx: u16 = load_used(c, one, two, 2);
+            Done::answered(c, 1, u32::from(idx != c.last_used_idx))
+        }
     }
-    let idx = load_used16(c, one, two, 2);
-    answered(c, 1, one_if(idx != c.last_used_idx))
 }
 
 // Whether the device asks to be notified: the value is 1 or 0.
-pub fn should_notify<'a>(
-    c: Core,
-    room: usize,
-    words: &[u64],
-    lens: &[u32],
-    halves: &[u16],
-    sides: &[bool],
-    one: &'a [u8],
-    two: &'a [u8],
-    pool: &[u8],
-) -> Done
-    requires { Room c room words.now lens.now halves.now sides.now }
-    ensures { done_of result (tables_of room words.now lens.now halves.now sides.now) (memory one.now two.now pool.now) ≡ should_notify (queue_of c (tables_of room words.now lens.now halves.now sides.now)) (memory one.now two.now pool.now) }
+pub fn should_notify(c: Core, t: &TablesRef, one: &[u8], two: &[u8], pool: &[u8]) -> Done
+    requires { HasRoom c t.now.room }
+    ensures { done_of result (tables_read t.now) (memory one.now two.now pool.now) ≡ should_notify (queue_of c (tables_read t.now)) (memory one.now two.now pool.now) }
 {
-    let fit = fits(c, one.len(), two.len(), pool.len());
-    let number = call_refusal(c, room, words, lens, halves, sides, fit);
-    if number != 0 {
-        return unmoved(c, number);
-    }
-    let modes = c.modes;
-    if modes.event_idx {
-        let event = load_used16(c, one, two, 4 + 8 * (c.n as usize));
-        answered(c, 1, one_if(after(event) <= c.avail_idx))
-    } else {
-        let flags = load_used16(c, one, two, 0);
-        answered(c, 1, one_if(flags % 2 == 0))
+    match may_begin(c, t, one, two, pool) {
+        Err(refusal) => Done::refused(c, refusal),
+        Ok(()) if c.modes.event_idx => {
+            let event: u16 = load_used(c, one, two, 4 + 8 * (c.n as usize));
+            Done::answered(c, 1, u32::from(after(event) <= c.avail_idx))
+        }
+        Ok(()) => {
+            let flags: u16 = load_used(c, one, two, 0);
+            Done::answered(c, 1, u32::from(flags % 2 == 0))
+        }
     }
 }
 
 // Tells the device whether to notify; nothing is stored with event indices.
 pub fn set_dev_notify(
     c: Core,
-    room: usize,
-    words: &[u64],
-    lens: &[u32],
-    halves: &[u16],
-    sides: &[bool],
+    t: &TablesRef,
     wanted: bool,
     one: &mut [u8],
     two: &[u8],
     pool: &[u8],
 ) -> Done
-    requires { Room c room words.now lens.now halves.now sides.now }
-    ensures { done_of result (tables_of room words.now lens.now halves.now sides.now) (memory one.new two.now pool.now) ≡ set_dev_notify (queue_of c (tables_of room words.now lens.now halves.now sides.now)) (memory one.old two.now pool.now) wanted }
+    requires { HasRoom c t.now.room }
+    ensures { done_of result (tables_read t.now) (memory one.new two.now pool.now) ≡ set_dev_notify (queue_of c (tables_read t.now)) (memory one.old two.now pool.now) wanted }
 {
-    let fit = fits(c, one.len(), two.len(), pool.len());
-    let number = call_refusal(c, room, words, lens, halves, sides, fit);
-    if number != 0 {
-        return unmoved(c, number);
+    match may_begin(c, t, one, two, pool) {
+        Err(refusal) => Done::refused(c, refusal),
+        Ok(()) if c.modes.event_idx => Done::answered(c, 0, 0),
+        Ok(()) => {
+            store(one, avail_at(c.n), not_wanted(wanted));
+            Done::answered(c, 1, 0)
+        }
     }
-    let modes = c.modes;
-    if modes.event_idx {
-        return answered(c, 0, 0);
-    }
-    store16(one, avail_at(c.n), not_wanted(wanted));
-    answered(c, 1, 0)
 }
 
 // The available ring's flags: 1 asks the device to leave notifications.
 fn not_wanted(wanted: bool) -> u16
     ensures { result ≡ cond wanted 0 1 }
 {
-    if wanted { 0 } else { 1 }
+    u16::from(!wanted)
 }

@@ -1,7 +1,8 @@
 // Records that no call makes: any number in any field, array or open call.
+use crate::operations::Forged;
+use crate::tokens::{Script, low16, low32};
 use record::Queue;
 use rules::{Modes, Open};
-use views::Core;
 
 // The modes as bits: indirect, event_idx, legacy.
 pub fn bits(x: u64) -> Modes {
@@ -12,96 +13,70 @@ pub fn bits(x: u64) -> Modes {
     }
 }
 
-fn pick(chosen: bool, x: u16, y: u16) -> u16 {
-    if chosen { x } else { y }
+// Forges a part of the record as a script says by four numbers.
+pub fn forge_part(part: Forged, script: &mut Script, queue: &mut Queue) {
+    let which = script.number();
+    let a = script.number();
+    let b = script.number();
+    let c = script.number();
+    match part {
+        Forged::Field => forge_field(queue, which, a, b),
+        Forged::Table => forge_table(queue, which, a as usize, b),
+        Forged::Call => queue.core.call = open_call(which, a, b, c),
+    }
 }
 
-// The plain fields with another number in one: n, num_used, free_head, avail_idx, last_used_idx; or, as field 5, another base and other modes.
-pub fn with_field(c: Core, field: u64, x: u64, y: u64) -> Core {
-    let half = (x % 65536) as u16;
-    let call = c.call;
-    let modes = if field == 5 { bits(y) } else { c.modes };
-    Core {
-        n: pick(field == 0, half, c.n),
-        modes,
-        base: if field == 5 { x } else { c.base },
-        num_used: pick(field == 1, half, c.num_used),
-        free_head: pick(field == 2, half, c.free_head),
-        avail_idx: pick(field == 3, half, c.avail_idx),
-        last_used_idx: pick(field == 4, half, c.last_used_idx),
-        call,
+// Another number in a plain field: n, num_used, free_head, avail_idx, last_used_idx; or, as field 5, another base and other modes.
+fn forge_field(queue: &mut Queue, field: u64, x: u64, y: u64) {
+    let half = low16(x);
+    match field {
+        0 => queue.core.n = half,
+        1 => queue.core.num_used = half,
+        2 => queue.core.free_head = half,
+        3 => queue.core.avail_idx = half,
+        4 => queue.core.last_used_idx = half,
+        5 => {
+            queue.core.base = x;
+            queue.core.modes = bits(y);
+        }
+        _ => {}
+    }
+}
+
+// Another number in a table: words, lens, halves, sides. A place that the table hasn't is none.
+fn forge_table(queue: &mut Queue, table: u64, i: usize, x: u64) {
+    match table {
+        0 if i < 4160 => queue.words[i] = x,
+        1 if i < 4160 => queue.lens[i] = low32(x),
+        2 if i < 192 => queue.halves[i] = low16(x),
+        3 if i < 4096 => queue.sides[i] = x % 2 == 1,
+        _ => {}
     }
 }
 
 // An open call by its kind, in the order of the type, and its numbers.
-pub fn open_call(kind: u64, a: u64, b: u64, c: u64) -> Open {
-    let half = (a % 65536) as u16;
-    let other = (b % 65536) as u16;
-    let token = (a % 4294967296) as u32;
-    let last = (c % 4294967296) as u32;
+fn open_call(kind: u64, a: u64, b: u64, c: u64) -> Open {
+    let token = low32(a);
     let matched = b % 2 == 1;
     match kind {
         1 => Open::Add {
-            head: half,
-            step: other,
+            head: low16(a),
+            step: low16(b),
         },
         2 => Open::PopIdx { token, matched },
         3 => Open::PopId { token, matched },
         4 => Open::PopLen {
             token,
             matched,
-            id: last,
+            id: low32(c),
         },
         5 => Open::PopStore {
-            count: half,
-            step: other,
-            len: last,
+            count: low16(a),
+            step: low16(b),
+            len: low32(c),
         },
         6 => Open::PeekIdx,
         7 => Open::PeekId,
         _ => Open::Idle,
-    }
-}
-
-// The record with other plain fields.
-pub fn with_core(q: Queue, core: Core) -> Queue {
-    let words = q.words;
-    let lens = q.lens;
-    let halves = q.halves;
-    let sides = q.sides;
-    Queue {
-        core,
-        words,
-        lens,
-        halves,
-        sides,
-    }
-}
-
-// The record with another number in one of its arrays: words, lens, halves, sides.
-pub fn with_word(q: Queue, array: u64, i: usize, x: u64) -> Queue {
-    let core = q.core;
-    let mut words = q.words;
-    let mut lens = q.lens;
-    let mut halves = q.halves;
-    let mut sides = q.sides;
-    if array == 0 && i < 4160 {
-        words[i] = x;
-    }
-    if array == 1 && i < 4160 {
-        lens[i] = (x % 4294967296) as u32;
-    }
-    if array == 2 && i < 192 {
-        halves[i] = (x % 65536) as u16;
-    }
-    if array == 3 && i < 4096 {
-        sides[i] = x % 2 == 1;
-    }
-    Queue {
-        core,
-        words,
-        lens,
-        halves,
-        sides,
     }
 }

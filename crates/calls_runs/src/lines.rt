@@ -1,28 +1,11 @@
 // What is printed of an answer: a line of numbers, among them sums of the memory and of the private tables, and where asked for the bytes.
 ghost use Rattle.std.specs.Prelude.{◌≤◌};
 
-use crate::tokens::wide8;
-use print::{put_number, put_text, write_first};
-use record::{Answer, Queue};
+use crate::lending::{Lent, Memory, Show};
+use print::{Page, write_first};
+use record::{Answer, Queue, number_of};
 use std::io;
 use std::io::Write;
-
-// How much of each region and of the store is lent, and what lines show: 0 all, 1 what the crate too can tell, 2 that and the bytes.
-#[derive(Clone, Copy)]
-pub struct Lent {
-    pub one: usize,
-    pub two: usize,
-    pub pool: usize,
-    pub store: usize,
-    pub show: u64,
-}
-
-// The numbers that only some operations have, at the end of their lines.
-#[derive(Clone, Copy)]
-pub struct Tail {
-    pub count: usize,
-    pub numbers: [u64; 6],
-}
 
 // The sums of a line: of regions one and two, the shadow table, the live lists, the pool, and the rest of the tables.
 #[derive(Clone, Copy)]
@@ -34,52 +17,24 @@ struct Sums {
     kept: u64,
 }
 
-fn wide16(x: u16) -> u64 {
-    x as u64
-}
-
-fn wide32(x: u32) -> u64 {
-    x as u64
-}
-
-fn bit(b: bool) -> u64 {
-    if b { 1 } else { 0 }
-}
-
 // One more number in a sum that tells the places of its numbers.
-fn mixed(total: u64, x: u64) -> u64 {
-    (total % 4294967291 * 1000003 + x % 4294967291) % 4294967291
+fn mixed<X: Into<u64>>(total: u64, x: X) -> u64 {
+    (total % 4294967291 * 1000003 + x.into() % 4294967291) % 4294967291
 }
 
-// The sum goes on over `count` bytes from `from` on, as far as there are.
-pub fn sum_bytes(start: u64, s: &[u8], from: usize, count: usize) -> u64 {
-    let mut total = start;
-    let mut left = count;
-    let mut i = from;
-    while i < s.len() {
-        if left == 0 {
-            return total;
-        }
-        total = mixed(total, wide8(s[i]));
-        i += 1;
-        left -= 1;
-    }
-    total
+// The sum goes on over the bytes.
+pub fn sum_bytes(start: u64, bytes: &[u8]) -> u64 {
+    bytes.iter().fold(start, |total, byte| mixed(total, *byte))
 }
 
 // A sum of the first n descriptors of the shadow table.
-fn sum_shadow(n: usize, words: &[u64; 4160], lens: &[u32; 4160], halves: &[u16; 192]) -> u64 {
-    let mut total: u64 = 0;
-    let mut i: usize = 0;
-    while i < 64 {
-        if n <= i {
-            return total;
-        }
-        total = mixed(total, words[i]);
-        total = mixed(total, wide32(lens[i]));
-        total = mixed(total, wide16(halves[64 + i]));
-        total = mixed(total, wide16(halves[i]));
-        i += 1;
+fn sum_shadow(n: usize, queue: &Queue) -> u64 {
+    let mut total = 0;
+    for i in 0..n.min(64) {
+        total = mixed(total, queue.words[i]);
+        total = mixed(total, queue.lens[i]);
+        total = mixed(total, queue.halves[64 + i]);
+        total = mixed(total, queue.halves[i]);
     }
     total
 }
@@ -92,36 +47,22 @@ fn list_bytes(n: usize) -> usize
 }
 
 // A sum of the live lists: the pool's bytes that an outstanding indirect head names.
-fn sum_lists(n: usize, lens: &[u32; 4160], halves: &[u16; 192], pool: &[u8]) -> u64 {
-    let mut total: u64 = 0;
+fn sum_lists(n: usize, queue: &Queue, pool: &[u8]) -> u64 {
     let size = list_bytes(n);
-    let mut at: usize = 0;
-    let mut i: usize = 0;
-    while i < 64 {
-        if n <= i {
-            return total;
+    let mut total = 0;
+    for i in 0..n.min(64) {
+        if queue.halves[128 + i] != 0 && queue.halves[64 + i] == 4 {
+            let list = pool.iter().skip(i * size).take(queue.lens[i] as usize);
+            total = list.fold(total, |total, byte| mixed(total, *byte));
         }
-        if halves[128 + i] != 0 && halves[64 + i] == 4 {
-            total = sum_bytes(total, pool, at, wide32(lens[i]) as usize);
-        }
-        at += size;
-        i += 1;
     }
     total
 }
 
 // A sum of the noted lengths.
-fn sum_noted(n: usize, halves: &[u16; 192]) -> u64 {
-    let mut total: u64 = 0;
-    let mut i: usize = 0;
-    while i < 64 {
-        if n <= i {
-            return total;
-        }
-        total = mixed(total, wide16(halves[128 + i]));
-        i += 1;
-    }
-    total
+fn sum_noted(n: usize, queue: &Queue) -> u64 {
+    let noted = queue.halves[128..].iter().take(n);
+    noted.fold(0, |total, len| mixed(total, *len))
 }
 
 // How many entries the private lists of a queue of size n have.
@@ -132,162 +73,107 @@ fn entries(n: usize) -> usize
 }
 
 // The sum goes on over the private lists' n * n entries.
-fn sum_kept(
-    start: u64,
-    n: usize,
-    words: &[u64; 4160],
-    lens: &[u32; 4160],
-    sides: &[bool; 4096],
-) -> u64 {
-    let count = entries(n);
+fn sum_kept(start: u64, n: usize, queue: &Queue) -> u64 {
     let mut total = start;
-    let mut i: usize = 0;
-    while i < count {
-        total = mixed(total, words[64 + i]);
-        total = mixed(total, wide32(lens[64 + i]));
-        total = mixed(total, bit(sides[i]));
-        i += 1;
+    for i in 0..entries(n) {
+        total = mixed(total, queue.words[64 + i]);
+        total = mixed(total, queue.lens[64 + i]);
+        total = mixed(total, queue.sides[i]);
     }
     total
 }
 
 // The sums of the record's tables, and of the memory that they tell of; the last two only where all is shown.
-fn sums_of(q: Queue, lent: Lent, one: &[u8], two: &[u8], pool: &[u8]) -> Sums {
-    let core = q.core;
-    let words = q.words;
-    let lens = q.lens;
-    let halves = q.halves;
-    let sides = q.sides;
-    let n = core.n as usize;
-    let all = lent.show == 0;
-    let bytes = if all { lent.pool } else { 0 };
-    let size = if all { n } else { 0 };
+fn sums_of(queue: &Queue, lent: Lent, memory: &Memory) -> Sums {
+    let n = usize::from(queue.core.n);
+    let (size, bytes) = match lent.show {
+        Show::All => (n, lent.pool),
+        _ => (0, 0),
+    };
+    let one = sum_bytes(0, &memory.one[..lent.one]);
     Sums {
-        memory: sum_bytes(sum_bytes(0, one, 0, lent.one), two, 0, lent.two),
-        shadow: sum_shadow(n, &words, &lens, &halves),
-        lists: sum_lists(n, &lens, &halves, pool),
-        pool: sum_bytes(0, pool, 0, bytes),
-        kept: sum_kept(sum_noted(size, &halves), size, &words, &lens, &sides),
+        memory: sum_bytes(one, &memory.two[..lent.two]),
+        shadow: sum_shadow(n, queue),
+        lists: sum_lists(n, queue, &memory.pool),
+        pool: sum_bytes(0, &memory.pool[..bytes]),
+        kept: sum_kept(sum_noted(size, queue), size, queue),
     }
 }
 
-// Writes the bytes of a region, as many as are lent.
-fn dump<W: Write>(to: &mut W, s: &[u8], count: usize) -> io::Result<()> {
-    let mut i: usize = 0;
-    while i < s.len() {
-        if count <= i {
-            break;
-        }
-        let byte = s[i];
+// Writes the bytes of a region.
+fn dump<W: Write>(to: &mut W, bytes: &[u8]) -> io::Result<()> {
+    for byte in bytes {
         write!(to, "{byte:02x}")?;
-        i += 1;
     }
-    to.write_all(b"\n")
+    writeln!(to)
 }
 
-// Puts the numbers at the start of out, with spaces between them, and answers where they end.
-fn put_numbers(out: &mut [u8; 500], numbers: &[u64; 15], count: usize) -> usize {
-    let mut p: usize = 0;
-    let mut i: usize = 0;
-    while i < 15 {
-        if count <= i {
-            break;
-        }
-        if 0 < i {
-            p = put_text(out, p, b" ");
-        }
-        p = put_number(out, p, numbers[i]);
-        i += 1;
+// Puts numbers behind what is there, each with a space in front.
+fn put_numbers(page: &mut Page, numbers: &[u64]) {
+    for number in numbers {
+        page.text(b" ");
+        page.number(*number);
     }
-    p
 }
 
-// Puts the tail's numbers behind them.
-fn put_tail(out: &mut [u8; 500], at: usize, numbers: &[u64; 6], count: usize) -> usize {
-    let mut p = at;
-    let mut i: usize = 0;
-    while i < 6 {
-        if count <= i {
-            break;
-        }
-        p = put_text(out, p, b" ");
-        p = put_number(out, p, numbers[i]);
-        i += 1;
-    }
-    p
-}
-
-// Ends the line at p, and writes it in one go.
-fn write_line<W: Write>(to: &mut W, out: &mut [u8; 500], p: usize) -> io::Result<()> {
-    let end = put_text(out, p, b"\n");
-    write_first(to, out, end)
-}
-
-// Writes the first `count` numbers and the tail as a line: 21 numbers have at most 441 bytes.
+// Writes a line in one go, since standard output has no buffer: 21 numbers have at most 441 bytes.
 fn print_numbers<W: Write>(
     to: &mut W,
-    numbers: &[u64; 15],
-    count: usize,
-    tail: Tail,
+    first: u64,
+    numbers: &[u64],
+    tail: &[u64],
 ) -> io::Result<()> {
     let mut space = [0u8; 500];
-    let more = tail.numbers;
-    let p = put_numbers(&mut space, numbers, count);
-    let q = put_tail(&mut space, p, &more, tail.count);
-    write_line(to, &mut space, q)
+    let mut page = Page {
+        bytes: &mut space,
+        said: 0,
+    };
+    page.number(first);
+    put_numbers(&mut page, numbers);
+    put_numbers(&mut page, tail);
+    page.text(b"\n");
+    let end = page.said;
+    write_first(to, &space, end)
 }
 
-// The tail of an operation that has none.
-pub fn no_tail() -> Tail {
-    Tail {
-        count: 0,
-        numbers: [0; 6],
-    }
-}
-
-// The line of an answer: the operation, answer and value, the record's plain numbers, what available_desc says, and the sums. The last four
-// numbers before the tail are those that the crate can't tell.
+// The line of an answer: the operation's number, answer and value, the record's plain numbers, what available_desc says, and the sums; and the tail,
+// numbers that only some operations have. The last four numbers before the tail are those that the crate can't tell.
 pub fn line<W: Write>(
     to: &mut W,
-    op: u64,
-    r: Answer,
-    tail: Tail,
+    operation: u64,
+    r: &Answer,
+    tail: &[u64],
     lent: Lent,
-    one: &[u8],
-    two: &[u8],
-    pool: &[u8],
+    memory: &Memory,
 ) -> io::Result<()> {
-    let queue = r.queue;
-    let core = queue.core;
-    let told = queue.available_desc();
-    let s = sums_of(queue, lent, one, two, pool);
+    let core = r.queue.core;
+    let told = r.queue.available_desc();
+    let sums = sums_of(&r.queue, lent, memory);
     let numbers = [
-        op,
-        r.answer as u64,
-        r.value as u64,
-        core.free_head as u64,
-        core.num_used as u64,
-        core.avail_idx as u64,
-        core.last_used_idx as u64,
-        told.value as u64,
-        s.memory,
-        s.shadow,
-        s.lists,
-        r.steps as u64,
-        told.answer as u64,
-        s.pool,
-        s.kept,
+        u64::from(r.number()),
+        u64::from(r.value()),
+        u64::from(core.free_head),
+        u64::from(core.num_used),
+        u64::from(core.avail_idx),
+        u64::from(core.last_used_idx),
+        u64::from(told.unwrap_or(0)),
+        sums.memory,
+        sums.shadow,
+        sums.lists,
+        u64::from(r.steps),
+        u64::from(number_of(&told)),
+        sums.pool,
+        sums.kept,
     ];
-    print_numbers(to, &numbers, shown(lent.show), tail)?;
-    if lent.show == 2 {
-        dump(to, one, lent.one)?;
-        dump(to, two, lent.two)?;
-        dump(to, pool, lent.pool)?;
+    let shown = match lent.show {
+        Show::All => 14,
+        _ => 10,
+    };
+    print_numbers(to, operation, &numbers[..shown], tail)?;
+    if lent.show == Show::Bytes {
+        dump(to, &memory.one[..lent.one])?;
+        dump(to, &memory.two[..lent.two])?;
+        dump(to, &memory.pool[..lent.pool])?;
     }
     Ok(())
-}
-
-// How many numbers a line has before its tail.
-fn shown(show: u64) -> usize {
-    if show == 0 { 15 } else { 11 }
 }

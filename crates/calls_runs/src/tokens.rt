@@ -1,154 +1,97 @@
-// Numbers and lists of numbers of a script. Whatever is not a digit parts numbers, so that a script may hold words.
-ghost use Rattle.std.specs.Prelude.{◌≤◌, length};
+// Numbers of a script. Whatever is not a digit parts numbers, so that a script may hold words.
+ghost use Rattle.std.specs.Prelude.{◌≤◌};
 
-// A number of the script, and where the next one is looked for.
-#[derive(Clone, Copy)]
-pub struct Token {
-    pub value: u64,
-    pub at: usize,
+use virtio::Buffer;
+
+// No list of a script has more buffers.
+pub const MOST: usize = 80;
+
+pub const NO_BUFFER: Buffer = Buffer {
+    addr: 0,
+    len: 0,
+    output: false,
+};
+
+// What is left to read of a script.
+#[derive(Drop)]
+pub struct Script<'a> {
+    rest: &'a [u8],
 }
 
-// A list of buffers as three arrays, and how much of each the script gave.
-#[derive(Clone, Copy)]
-pub struct List {
-    pub addrs: [u64; 80],
-    pub sizes: [u32; 80],
-    pub outs: [u8; 80],
-    pub addr_count: usize,
-    pub size_count: usize,
-    pub out_count: usize,
-    pub at: usize,
-}
-
-// Where the first digit from `at` on stands, or the end.
-fn digit_from(src: &[u8], at: usize) -> usize {
-    let mut i = at;
-    while i < src.len() {
-        if b'0' <= src[i] && src[i] <= b'9' {
-            return i;
-        }
-        i += 1;
+impl<'a> Script<'a> {
+    pub fn new(text: &'a [u8]) -> Script<'a> {
+        Script { rest: text }
     }
-    i
+
+    pub fn is_at_end(&self) -> bool {
+        self.rest.is_empty()
+    }
+
+    // The next number; 0 at the end.
+    pub fn number(&mut self) -> u64 {
+        let (value, rest) = split_number(self.rest);
+        self.rest = rest;
+        value
+    }
+
+    // The next number, and at most `most`.
+    pub fn capped(&mut self, most: usize) -> usize
+        ensures { result ≤ most }
+    {
+        self.number().min(most as u64) as usize
+    }
+
+    // A list: three counts, of addresses, sizes and sides, and these numbers. It has as many buffers as addresses; a size or a side that is missing is
+    // what the room had, one that no address has is left in the room behind the list, and a side that is not 0 is an output.
+    pub fn list<'b>(&mut self, room: &'b mut [Buffer; MOST]) -> &'b [Buffer] {
+        let count = self.capped(MOST);
+        let sizes = self.capped(MOST);
+        let sides = self.capped(MOST);
+        for buffer in room[..count].iter_mut() {
+            buffer.addr = self.number();
+        }
+        for buffer in room[..sizes].iter_mut() {
+            buffer.len = low32(self.number());
+        }
+        for buffer in room[..sides].iter_mut() {
+            buffer.output = low8(self.number()) != 0;
+        }
+        &room[..count]
+    }
 }
 
-// The next number from `at` on; 0 at the end. Digits past 64 bits are left out.
-pub fn number(src: &[u8], at: usize) -> Token {
-    let mut i = digit_from(src, at);
+// The first number of a text, and what stands behind it. Digits past 64 bits are left out.
+fn split_number(text: &[u8]) -> (u64, &[u8]) {
+    let start = text
+        .iter()
+        .position(|byte| byte.is_ascii_digit())
+        .unwrap_or(text.len());
+    let mut rest = &text[start..];
     let mut value: u64 = 0;
-    while i < src.len() {
-        let c = wide8(src[i]);
-        if c < 48 {
-            return Token { value, at: i };
-        }
-        if 57 < c {
-            return Token { value, at: i };
-        }
-        value = longer(value, c - 48);
-        i += 1;
+    while let [digit @ b'0'..=b'9', behind @ ..] = rest {
+        value = longer(value, u64::from(*digit - b'0'));
+        rest = behind;
     }
-    Token { value, at: i }
+    (value, rest)
 }
 
 // The number with one more digit, if it fits.
 fn longer(value: u64, digit: u64) -> u64 {
-    if value < 1844674407370955161 {
-        if digit < 10 {
-            return value * 10 + digit;
-        }
-    }
-    if value == 1844674407370955161 {
-        if digit < 6 {
-            return value * 10 + digit;
-        }
-    }
     value
+        .checked_mul(10)
+        .and_then(|tens| tens.checked_add(digit))
+        .unwrap_or(value)
 }
 
-// The number, and at most `most`.
-pub fn capped(x: u64, most: usize) -> usize
-    ensures { result ≤ most }
-{
-    if x < most as u64 { x as usize } else { most }
+// Numbers count modulo the width of their field.
+pub fn low8(x: u64) -> u8 {
+    (x % 256) as u8
 }
 
-// Reads addresses, `count` of them as far as there is room, and answers where the script goes on.
-fn read_addrs(src: &[u8], at: usize, count: usize, items: &mut [u64]) -> usize {
-    let mut from = at;
-    let mut i: usize = 0;
-    while i < items.len() {
-        if count <= i {
-            return from;
-        }
-        let t = number(src, from);
-        items[i] = t.value;
-        from = t.at;
-        i += 1;
-    }
-    from
+pub fn low16(x: u64) -> u16 {
+    (x % 65536) as u16
 }
 
-// Reads sizes, `count` of them as far as there is room, and answers where the script goes on.
-fn read_sizes(src: &[u8], at: usize, count: usize, items: &mut [u32]) -> usize {
-    let mut from = at;
-    let mut i: usize = 0;
-    while i < items.len() {
-        if count <= i {
-            return from;
-        }
-        let t = number(src, from);
-        items[i] = (t.value % 4294967296) as u32;
-        from = t.at;
-        i += 1;
-    }
-    from
-}
-
-// Reads sides, `count` of them as far as there is room, and answers where the script goes on.
-fn read_outs(src: &[u8], at: usize, count: usize, items: &mut [u8]) -> usize {
-    let mut from = at;
-    let mut i: usize = 0;
-    while i < items.len() {
-        if count <= i {
-            return from;
-        }
-        let t = number(src, from);
-        items[i] = (t.value % 256) as u8;
-        from = t.at;
-        i += 1;
-    }
-    from
-}
-
-// The three counts, then the numbers.
-pub fn read_list(src: &[u8], at: usize) -> List
-    ensures addr_count_in_bounds { result.addr_count ≤ length result.addrs }
-    ensures size_count_in_bounds { result.size_count ≤ length result.sizes }
-    ensures out_count_in_bounds { result.out_count ≤ length result.outs }
-{
-    let mut addrs = [0u64; 80];
-    let mut sizes = [0u32; 80];
-    let mut outs = [0u8; 80];
-    let a = number(src, at);
-    let b = number(src, a.at);
-    let c = number(src, b.at);
-    let addr_count = capped(a.value, 80);
-    let size_count = capped(b.value, 80);
-    let out_count = capped(c.value, 80);
-    let second = read_addrs(src, c.at, addr_count, &mut addrs);
-    let third = read_sizes(src, second, size_count, &mut sizes);
-    let end = read_outs(src, third, out_count, &mut outs);
-    List {
-        addrs,
-        sizes,
-        outs,
-        addr_count,
-        size_count,
-        out_count,
-        at: end,
-    }
-}
-
-pub fn wide8(x: u8) -> u64 {
-    x as u64
+pub fn low32(x: u64) -> u32 {
+    (x % 4294967296) as u32
 }

@@ -1,9 +1,8 @@
 -- What the walk of free list and chains answers, over the lent fields of the tables, and what its loops know on their way.
-use Rattle.std.specs.Prelude.{◌≡◌, refl, Bool, true, false, not, cond, ◌&&◌, ◌||◌, List, ◌++◌, ltb, eqb, length, get_or, set}
+use Rattle.std.specs.Prelude.{◌≡◌, refl, Bool, true, false, not, cond, ◌&&◌, ◌||◌, List, ◌++◌, ltb, eqb, length, get_or, set, Option, Some, None}
 use Rattle.std.proofs.Math.Path.{sym, ap, ap₂}
-use Rattle.std.proofs.Common.{◌∙◌, subst, add-one, lt-ltb, eqb-true}
+use Rattle.std.proofs.Common.{◌∙◌, subst, add-one, lt-ltb, eqb-true, eq-eqb, ne_eqb}
 use Rattle.std.proofs.Math.Bool.{and-true}
-use Rattle.std.proofs.lemmas.Bool.{false≢true}
 use Prim.Native.Nat.{ℕ, suc, ◌+◌, ◌-◌, ◌*◌, ◌%◌, ◌≤◌, ◌<◌}
 use Rattle.std.proofs.Math.Nat.{sub-zero}
 use native.Mathlib.Omega.{arith}
@@ -15,7 +14,7 @@ use Rattle.lists.specs.Pick.{every}
 use Rattle.lists.specs.Tests.{by_test}
 use Rattle.lists.specs.Walk.{walk, walk_below, walks, walks_below, ending, ending_none, ending_turn}
 use Rattle.views.specs.Views.{at, goes, heads}
-use Rattle.chains.specs.declared.Walked.{Walked}
+use Rattle.std.specs.Option.{is_some}
 
 -- the names in the order in which they are met: the free list, and then the chains
 abbrev pub names : ℕ → ℕ → ℕ → List ℕ → List ℕ → List ℕ
@@ -25,10 +24,10 @@ names n used free next noted = walk (at next) (n - used) free ++ walks (at next)
 abbrev pub ends_at : ℕ → List ℕ → List ℕ → List ℕ → ℕ → Bool
 ends_at n next flags noted h = not (heads n noted h) || ending (goes flags) (at next) (at noted h) h
 
--- THE ANSWER: whether all nexts are below n and each descriptor is named once; and if so, whether each chain ends at its noted length
-pub record Found (n used free : ℕ) (next flags noted : List ℕ) (r : Walked) : Type 0 where
-  pub named : r.named ≡ (every (λ i. ltb (at next i) n) n 0 && once_each n (names n used free next noted))
-  pub ended : r.named ≡ true → r.ended ≡ every (ends_at n next flags noted) n 0
+-- THE ANSWER: something exactly if all nexts are below n and each descriptor is named once; and then, whether each chain ends at its noted length
+pub record Found (n used free : ℕ) (next flags noted : List ℕ) (r : Option Bool) : Type 0 where
+  pub named : is_some r ≡ (every (λ i. ltb (at next i) n) n 0 && once_each n (names n used free next noted))
+  pub ended : (e : Bool) → r ≡ Some e → e ≡ every (ends_at n next flags noted) n 0
 
 -- NEXT among a descriptor's flags says whether `more` are to come in its chain
 abbrev pub agrees : ℕ → ℕ → Bool
@@ -62,8 +61,8 @@ module _ (n used free : ℕ) (next flags noted : List ℕ) where
     pub ends : every (ends_at n next flags noted) n 0 ≡ (ended && (ending (goes flags) (at next) m j && end_from (h + 1)))
 
   -- the walk is left where it is known that the answer is no
-  pub found_no : (e : Bool) → Known n (at next) all false → Found n used free next flags noted (record { named = false; ended = e })
-  found_no e k = record { named = answered n (at next) all false k; ended = λ z. absurd (false≢true z) }
+  pub found_no : Known n (at next) all false → Found n used free next flags noted None
+  found_no k = record { named = answered n (at next) all false k; ended = λ e z. cc }
 
   -- the free list, walked with marks of which none was set
   module _ (ws : List ℕ) (room : n ≤ 64 * length ws) (clear : (i : ℕ) → get_or ws i 0 ≡ 0) (u : used ≤ n) (f : free < n) (after : List Bool) where
@@ -90,11 +89,21 @@ module _ (n used free : ℕ) (next flags noted : List ℕ) where
   module _ (marks : List Bool) (left : ℕ) (ended : Bool) (h : ℕ) where
     -- at head h: after the last; its chain is longer than what is left; its chain is entered
     module _ (k : AtHead marks left ended h) where
-      pub found_all : n ≤ h → Found n used free next flags noted (record { named = eqb left 0; ended = ended })
+      asked_all : n ≤ h → Known n (at next) all (eqb left 0)
+      asked_all l = ask_end n (at next) all marks left (at noted) h k.asked l
+
+      pub some_left : n ≤ h → (left ≡ 0 → ⊥) → Known n (at next) all false
+      some_left l z = subst (Known n (at next) all) (ne_eqb left 0 z) (asked_all l)
+
+      ends_all : n ≤ h → ended ≡ every (ends_at n next flags noted) n 0
       unfolding every
-      found_all l = record {
-        named = answered n (at next) all (eqb left 0) (ask_end n (at next) all marks left (at noted) h k.asked l);
-        ended = λ z. sym (k.ends ∙ (let e : n - h ≡ 0 = omega arith in ap (λ m. ended && every (ends_at n next flags noted) m h) e) ∙ and-true ended);
+      ends_all l =
+          sym (k.ends ∙ (let e : n - h ≡ 0 = omega arith in ap (λ m. ended && every (ends_at n next flags noted) m h) e) ∙ and-true ended)
+
+      pub found_all : n ≤ h → left ≡ 0 → Found n used free next flags noted (Some ended)
+      found_all l z = record {
+        named = answered n (at next) all true (subst (Known n (at next) all) (eq-eqb left 0 z) (asked_all l));
+        ended = λ e s. let f : e ≡ ended = cc in f ∙ ends_all l;
       }
 
       module _ (l : h < n) where

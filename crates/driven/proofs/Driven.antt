@@ -9,6 +9,7 @@ use Rattle.std.proofs.Math.Dec.{eqb}
 use Rattle.virtio.specs.Memory.{Memory}
 use Rattle.rules.specs.Record.{is_open}
 use Rattle.rules.specs.Answer.{Outcome, Busy}
+use Rattle.rules.specs.Refused.{result_number}
 use Rattle.rules.specs.New as rule
 use Rattle.record.specs.declared.Answer.{Answer}
 use Rattle.record.specs.declared.Made.{Made}
@@ -38,14 +39,14 @@ module _ (w : Wiring) (s : State) (r : Answer) (m : Memory) where
 
   drives_is : (d : Drive) → answer_of r m ≡ ruled d (abs s.queue) s.memory → trace_of (after d r m s) ≡ mix.event w (event_of d) (trace_of s)
   unfolding mix.event
-  drives_is (called c) e = go (eqb r.answer Busy) refl ∙ ap (λ o. mix.called c o (trace_of s)) e
+  drives_is (called c) e = go (eqb (result_number r.outcome) Busy) refl ∙ ap (λ o. mix.called c o (trace_of s)) e
     where
-      go : (b : Bool) → eqb r.answer Busy ≡ b
+      go : (b : Bool) → eqb (result_number r.outcome) Busy ≡ b
           → trace_of (cond b (uncounted r m s) (drove (c ∷ []) r.steps r m s)) ≡ cond b (trace_of s) (mix.drives (c ∷ []) (answer_of r m) (trace_of s))
       go true z =
           uncounted_is
           (subst (Unaltered (abs s.queue) s.memory) (sym e)
-          (busy_unaltered (abs s.queue) s.memory c (sym (ap (λ (x : Outcome). x.answer) e) ∙ eqb-true r.answer Busy z)))
+          (busy_unaltered (abs s.queue) s.memory c (sym (ap (λ (x : Outcome). x.answer) e) ∙ eqb-true (result_number r.outcome) Busy z)))
       go false z = refl
   drives_is stepped e =
       go (is_open s.queue.core.call) refl

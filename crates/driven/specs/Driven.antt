@@ -10,6 +10,7 @@ use Rattle.virtio.specs.Memory.{Memory}
 use Rattle.rules.specs.Record as model
 use Rattle.rules.specs.Record.{is_open}
 use Rattle.rules.specs.Answer.{Busy}
+use Rattle.rules.specs.Refused.{result_number, result_value}
 use Rattle.rules.specs.New as rule
 use Rattle.record.specs.declared.Queue.{Queue}
 use Rattle.record.specs.declared.Answer.{Answer}
@@ -52,7 +53,7 @@ trace_of s = standing (abs s.queue) s.memory s
 
 -- an answer is noted once no call is open, with the steps that its call made
 abbrev pub answers_of : ℕ → Answer → List mix.Answer
-answers_of k r = cond (is_open r.queue.core.call) [] (record { number = r.answer; value = r.value; steps = k } ∷ [])
+answers_of k r = cond (is_open r.queue.core.call) [] (record { number = result_number r.outcome; value = result_value r.outcome; steps = k } ∷ [])
 
 -- after a driver's event that answered r over the bytes m, with k steps of its call made
 abbrev pub drove : List mix.Call → ℕ → Answer → Memory → State → State
@@ -82,7 +83,7 @@ uncounted r m s = record {
 
 -- which of the two: a call refused as Busy is not counted, nor is a step with none open
 abbrev pub after : Drive → Answer → Memory → State → State
-after (called c) r m s = cond (eqb r.answer Busy) (uncounted r m s) (drove (c ∷ []) r.steps r m s)
+after (called c) r m s = cond (eqb (result_number r.outcome) Busy) (uncounted r m s) (drove (c ∷ []) r.steps r m s)
 after stepped r m s = cond (is_open s.queue.core.call) (drove [] (s.made + r.steps) r m s) (uncounted r m s)
 
 abbrev pub worked : List Act → Worked → State → State
@@ -168,7 +169,7 @@ pub record Explains (w : Wiring) (n : ℕ) (s u : State) : Type 0 where
 -- THE THEOREM: over a queue that new has made, whatever run of the methods and of a rule-keeping device, with no call and no act left half done
 abbrev pub CodeDemand3 : Ask → Made → Memory → Type 0
 CodeDemand3 a r m =
-    r.answer ≡ 0 → (es : List mix.Event) (u : State) → Ran (wiring (ask_of a)) es (begun r m) u
+    result_number r.outcome ≡ 0 → (es : List mix.Event) (u : State) → Ran (wiring (ask_of a)) es (begun r m) u
     → is_open u.queue.core.call ≡ false → acting u.device.doing ≡ false
     → Explains (wiring (ask_of a)) a.n (begun r m) u
 

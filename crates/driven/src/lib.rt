@@ -6,13 +6,13 @@ ghost use Rattle.std.specs.Prelude.{◌≡◌};
 ghost use Rattle.virtio.specs.Memory.{Memory};
 ghost use Rattle.rules.specs.Calls.{available_desc};
 ghost use Rattle.access.specs.Accesses.{memory};
-ghost use Rattle.opens.specs.Given.{given};
 ghost use Rattle.record.specs.Abs.{abs};
 ghost use Rattle.record.specs.Asked.{answer_of};
 ghost use Rattle.driven.specs.Named.{drive_of};
 ghost use Rattle.driven.specs.Driven.{MakesEvent, Starts};
 
 use record::{Answer, Ask, Made, Queue};
+use virtio::Buffer;
 
 // An event of the driver: a call, by name, whose list, if it has one, comes beside it; or a step of the open call.
 #[derive(Clone, Copy)]
@@ -39,10 +39,8 @@ pub fn start(ask: Ask, one: &mut [u8], two: &mut [u8], pool: &[u8]) -> Made
 fn available(q: Queue) -> Answer
     ensures { (m : Memory) → answer_of result m ≡ available_desc (abs q) m }
 {
-    let told = q.available_desc();
     Answer {
-        answer: told.answer,
-        value: told.value as u32,
+        outcome: q.available_desc().map(u32::from),
         steps: 0,
         queue: q,
     }
@@ -52,20 +50,18 @@ fn available(q: Queue) -> Answer
 pub fn drive(
     event: Event,
     q: Queue,
-    addrs: &[u64],
-    sizes: &[u32],
-    outs: &[u8],
+    list: &[Buffer],
     one: &mut [u8],
     two: &[u8],
     pool: &mut [u8],
 ) -> Answer
-    ensures { MakesEvent (drive_of event (given addrs.now sizes.now outs.now)) q
+    ensures { MakesEvent (drive_of event list.now) q
         (memory one.old two.now pool.old) result
         (memory one.new two.now pool.new) }
 {
     match event {
-        Event::Add => q.open_add(addrs, sizes, outs, one, two, pool),
-        Event::PopUsed { token } => q.open_pop(token, addrs, sizes, outs, one, two, pool),
+        Event::Add => q.open_add(list, one, two, pool),
+        Event::PopUsed { token } => q.open_pop(token, list, one, two, pool),
         Event::PeekUsed => q.open_peek(one, two, pool),
         Event::CanPop => q.can_pop(one, two, pool),
         Event::ShouldNotify => q.should_notify(one, two, pool),

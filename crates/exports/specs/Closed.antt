@@ -56,10 +56,10 @@ queue_back q e = λ i. record { core = core_back q.core e i; words = q.words; le
 
 -- an answer with another record
 abbrev pub with_queue : Answer → Queue → Answer
-with_queue r q = record { answer = r.answer; value = r.value; steps = r.steps; queue = q }
+with_queue r q = record { outcome = r.outcome; steps = r.steps; queue = q }
 
 abbrev pub made_with : Made → Queue → Made
-made_with r q = record { answer = r.answer; table = r.table; avail = r.avail; used = r.used; queue = q }
+made_with r q = record { outcome = r.outcome; queue = q }
 
 answer_back : (r : Answer) (m : Memory) (o : Outcome) → answer_of r m ≡ o → o.queue.call ≡ Idle → answer_of (with_queue r (queue_of (flat_of r.queue))) m ≡ o
 answer_back r m o e idle =

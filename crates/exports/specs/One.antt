@@ -2,35 +2,39 @@
 use Rattle.std.specs.Prelude.{◌≡◌, Bool, List, ℕ}
 use Rattle.std.proofs.Common.{ap}
 use Rattle.virtio.specs.Memory.{Memory}
-use Rattle.record.specs.declared.Made.{Made}
-use Rattle.record.specs.declared.Answer.{Answer}
-use Rattle.record.specs.Abs.{Arrays}
-use Rattle.record.specs.Asked.{answer_of, made_of, answer_one, made_one}
+use Rattle.rules.specs.Answer.{Outcome}
+use Rattle.rules.specs.New as rule
+use Rattle.record.specs.declared.Queue.{Queue}
+use Rattle.record.specs.Abs.{Arrays, abs_fixes}
+use Rattle.exports.specs.declared.Flat.{Flat}
 use Rattle.exports.specs.declared.FlatMade.{FlatMade}
 use Rattle.exports.specs.declared.FlatAnswer.{FlatAnswer}
 use Rattle.exports.specs.declared.LentAnswer.{LentAnswer}
-use Rattle.exports.specs.Flat.{plain_of, queue_of, flat_of, made_is, answer_is, lent_is}
+use Rattle.exports.specs.Flat.{AnswerNumbers, plain_of, queue_of, flat_of, made_is, answer_is, lent_is, made_of, answer_of}
 
-abbrev made_of_lem : Made → FlatMade
-made_of_lem r = record { answer = r.answer; table = r.table; avail = r.avail; used = r.used; queue = flat_of r.queue }
-
-abbrev flat_of_lem : Answer → FlatAnswer
-flat_of_lem r = record { answer = r.answer; value = r.value; steps = r.steps; queue = flat_of r.queue }
-
-abbrev lent_of : Answer → LentAnswer
-lent_of r = record { answer = r.answer; value = r.value; steps = r.steps; plain = plain_of r.queue.core }
+-- C's record is one where record's is
+flat_one : (f g : Flat) → queue_of f ≡ queue_of g → f ≡ g
+flat_one f g e = ap flat_of e
 
 pub flat_made_one : (r s : FlatMade) (m l : Memory) → Arrays (queue_of r.queue) → Arrays (queue_of s.queue) → made_of (made_is r) m ≡ made_of (made_is s) l → (r ≡ s) × (m ≡ l)
-flat_made_one r s m l a b e = let o = made_one (made_is r) (made_is s) m l a b e in (ap made_of_lem o.0, o.1)
+flat_made_one r s m l a b e =
+    let q : r.queue ≡ s.queue = flat_one r.queue s.queue (abs_fixes (queue_of r.queue) (queue_of s.queue) a b (ap (λ (x : rule.Made). x.queue) e)) in (
+      λ i. record { answer = (e i).answer; table = (e i).table; avail = (e i).avail; used = (e i).used; queue = q i },
+      ap (λ (x : rule.Made). x.memory) e,
+    )
 
 pub flat_answer_one : (r s : FlatAnswer) (m l : Memory) → Arrays (queue_of r.queue) → Arrays (queue_of s.queue) → answer_of (answer_is r) m ≡ answer_of (answer_is s) l → (r ≡ s) × (m ≡ l)
-flat_answer_one r s m l a b e = let o = answer_one (answer_is r) (answer_is s) m l a b e in (ap flat_of_lem o.0, o.1)
+flat_answer_one r s m l a b e =
+    let q : r.queue ≡ s.queue = flat_one r.queue s.queue (abs_fixes (queue_of r.queue) (queue_of s.queue) a b (ap (λ (x : Outcome). x.queue) e)) in (
+      λ i. record { answer = (e i).answer; value = (e i).value; steps = (e i).steps; queue = q i },
+      ap (λ (x : Outcome). x.memory) e,
+    )
 
 module _ (r s : LentAnswer) (words lens halves words' lens' halves' : List ℕ) (sides sides' : List Bool) where
-  abbrev pub first : Answer
+  abbrev pub first : AnswerNumbers
   first = lent_is r words lens halves sides
 
-  abbrev pub second : Answer
+  abbrev pub second : AnswerNumbers
   second = lent_is s words' lens' halves' sides'
 
   pub lent_answer_one
@@ -40,12 +44,12 @@ module _ (r s : LentAnswer) (words lens halves words' lens' halves' : List ℕ) 
       → answer_of first m ≡ answer_of second l
       → (r ≡ s) × (m ≡ l) × (words ≡ words') × (lens ≡ lens') × (halves ≡ halves') × (sides ≡ sides')
   lent_answer_one m l a b e =
-      let o = answer_one first second m l a b e in
-      let p : first ≡ second = o.0 in (
-        ap lent_of p,
-        o.1,
-        ap (λ (x : Answer). x.queue.words) p,
-        ap (λ (x : Answer). x.queue.lens) p,
-        ap (λ (x : Answer). x.queue.halves) p,
-        ap (λ (x : Answer). x.queue.sides) p,
+      let q : first.queue ≡ second.queue = abs_fixes first.queue second.queue a b (ap (λ (x : Outcome). x.queue) e) in
+      let p : r.plain ≡ s.plain = ap (λ (x : Queue). plain_of x.core) q in (
+        λ i. record { answer = (e i).answer; value = (e i).value; steps = (e i).steps; plain = p i },
+        ap (λ (x : Outcome). x.memory) e,
+        ap (λ (x : Queue). x.words) q,
+        ap (λ (x : Queue). x.lens) q,
+        ap (λ (x : Queue). x.halves) q,
+        ap (λ (x : Queue). x.sides) q,
       )

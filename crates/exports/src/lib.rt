@@ -8,14 +8,16 @@ ghost use Rattle.rules.specs.New.{new as new_is};
 ghost use Rattle.opens.specs.Given.{given};
 ghost use Rattle.access.specs.Accesses.{memory};
 ghost use Rattle.record.specs.Abs.{abs};
-ghost use Rattle.record.specs.Asked.{answer_of, ask_of, made_of};
-ghost use Rattle.exports.specs.Flat.{core_of, plain_of, queue_of, flat_of, lent_of, ask_is, made_is, answer_is, lent_is};
+ghost use Rattle.record.specs.Asked.{ask_of};
+ghost use Rattle.exports.specs.Flat.{queue_of, lent_of, ask_is, made_is, answer_is, lent_is, made_of, answer_of};
 
-use record::{Ask, Queue};
-use rules::{Modes, Open};
-use views::Core;
-
+mod forms;
 pub mod single;
+
+use buffers::gather;
+use record::{Ask, Queue};
+use tables::TablesMut;
+use views::Core;
 
 // The record's fields beside its tables and the open call.
 #[repr(C)]
@@ -89,108 +91,13 @@ pub struct LentAnswer {
     pub plain: Plain,
 }
 
-// ---- the two forms of a record
-
-fn core_of(p: Plain) -> Core
-    ensures { result ≡ core_of p }
-{
-    let modes = Modes {
-        indirect: p.indirect,
-        event_idx: p.event_idx,
-        legacy: p.legacy,
-    };
-    Core {
-        n: p.n,
-        modes,
-        base: p.base,
-        num_used: p.num_used,
-        free_head: p.free_head,
-        avail_idx: p.avail_idx,
-        last_used_idx: p.last_used_idx,
-        call: Open::Idle,
-    }
-}
-
-fn plain_of(c: Core) -> Plain
-    ensures { result ≡ plain_of c }
-{
-    let modes = c.modes;
-    Plain {
-        n: c.n,
-        indirect: modes.indirect,
-        event_idx: modes.event_idx,
-        legacy: modes.legacy,
-        base: c.base,
-        num_used: c.num_used,
-        free_head: c.free_head,
-        avail_idx: c.avail_idx,
-        last_used_idx: c.last_used_idx,
-    }
-}
-
-fn queue_of(f: Flat) -> Queue
-    ensures { result ≡ queue_of f }
-{
-    let core = core_of(f.plain);
-    let words = f.words;
-    let lens = f.lens;
-    let halves = f.halves;
-    let sides = f.sides;
-    Queue {
-        core,
-        words,
-        lens,
-        halves,
-        sides,
-    }
-}
-
-fn flat_of(q: Queue) -> Flat
-    ensures { result ≡ flat_of q }
-{
-    let plain = plain_of(q.core);
-    let words = q.words;
-    let lens = q.lens;
-    let halves = q.halves;
-    let sides = q.sides;
-    Flat {
-        plain,
-        words,
-        lens,
-        halves,
-        sides,
-    }
-}
-
 // ---- the record by value
 
 // record's new.
 pub fn mayketura_new(ask: FlatAsk, one: &mut [u8], two: &mut [u8], pool: &[u8]) -> FlatMade
     ensures { made_of (made_is result) (memory one.new two.new pool.now) ≡ new_is (ask_of (ask_is ask)) (memory one.old two.old pool.now) }
 {
-    let modes = Modes {
-        indirect: ask.indirect,
-        event_idx: ask.event_idx,
-        legacy: ask.legacy,
-    };
-    let asked = Ask {
-        n: ask.n,
-        in_use: ask.in_use,
-        most: ask.most,
-        modes,
-        base_one: ask.base_one,
-        base_two: ask.base_two,
-        base_pool: ask.base_pool,
-    };
-    let made = Queue::new(asked, one, two, pool);
-    let queue = flat_of(made.queue);
-    FlatMade {
-        answer: made.answer,
-        table: made.table,
-        avail: made.avail,
-        used: made.used,
-        queue,
-    }
+    FlatMade::from(Queue::new(Ask::from(ask), one, two, pool))
 }
 
 // record's add.
@@ -205,15 +112,10 @@ pub fn mayketura_add(
 ) -> FlatAnswer
     ensures { answer_of (answer_is result) (memory one.new two.now pool.new) ≡ add_is (abs (queue_of q)) (memory one.old two.now pool.old) (given addrs.now sizes.now outs.now) }
 {
-    let queue = queue_of(q);
-    let done = queue.add(addrs, sizes, outs, one, two, pool);
-    let after = flat_of(done.queue);
-    FlatAnswer {
-        answer: done.answer,
-        value: done.value,
-        steps: done.steps,
-        queue: after,
-    }
+    let mut list = gather(addrs, sizes, outs);
+    list.shorten();
+    let done = Queue::from(q).add(list.buffers(), one, two, pool);
+    FlatAnswer::from(done)
 }
 
 // record's pop_used.
@@ -229,30 +131,17 @@ pub fn mayketura_pop_used(
 ) -> FlatAnswer
     ensures { answer_of (answer_is result) (memory one.new two.now pool.new) ≡ pop_used (abs (queue_of q)) (memory one.old two.now pool.old) token (given addrs.now sizes.now outs.now) }
 {
-    let queue = queue_of(q);
-    let done = queue.pop_used(token, addrs, sizes, outs, one, two, pool);
-    let after = flat_of(done.queue);
-    FlatAnswer {
-        answer: done.answer,
-        value: done.value,
-        steps: done.steps,
-        queue: after,
-    }
+    let mut list = gather(addrs, sizes, outs);
+    list.shorten();
+    let done = Queue::from(q).pop_used(token, list.buffers(), one, two, pool);
+    FlatAnswer::from(done)
 }
 
 // record's peek_used.
 pub fn mayketura_peek_used(q: Flat, one: &mut [u8], two: &[u8], pool: &mut [u8]) -> FlatAnswer
     ensures { answer_of (answer_is result) (memory one.new two.now pool.new) ≡ peek_used (abs (queue_of q)) (memory one.old two.now pool.old) }
 {
-    let queue = queue_of(q);
-    let done = queue.peek_used(one, two, pool);
-    let after = flat_of(done.queue);
-    FlatAnswer {
-        answer: done.answer,
-        value: done.value,
-        steps: done.steps,
-        queue: after,
-    }
+    FlatAnswer::from(Queue::from(q).peek_used(one, two, pool))
 }
 
 // ---- the record's tables lent
@@ -273,17 +162,17 @@ pub fn mayketura_add_lent(
 ) -> LentAnswer
     ensures { answer_of (lent_is result words.new lens.new halves.new sides.new) (memory one.new two.now pool.new) ≡ add_is (abs (lent_of p words.old lens.old halves.old sides.old)) (memory one.old two.now pool.old) (given addrs.now sizes.now outs.now) }
 {
-    let core = core_of(p);
-    let done = queue::add(
-        core, 64, words, lens, halves, sides, addrs, sizes, outs, one, two, pool,
-    );
-    let plain = plain_of(done.core);
-    LentAnswer {
-        answer: done.answer,
-        value: done.value,
-        steps: done.steps,
-        plain,
-    }
+    let mut list = gather(addrs, sizes, outs);
+    list.shorten();
+    let mut tables = TablesMut {
+        room: 64,
+        words,
+        lens,
+        halves,
+        sides,
+    };
+    let done = queue::add(Core::from(p), &mut tables, list.buffers(), one, two, pool);
+    LentAnswer::from(done)
 }
 
 // queue's pop_used, over tables at the limit.
@@ -303,17 +192,25 @@ pub fn mayketura_pop_used_lent(
 ) -> LentAnswer
     ensures { answer_of (lent_is result words.new lens.new halves.new sides.new) (memory one.new two.now pool.new) ≡ pop_used (abs (lent_of p words.old lens.old halves.old sides.old)) (memory one.old two.now pool.old) token (given addrs.now sizes.now outs.now) }
 {
-    let core = core_of(p);
+    let mut list = gather(addrs, sizes, outs);
+    list.shorten();
+    let mut tables = TablesMut {
+        room: 64,
+        words,
+        lens,
+        halves,
+        sides,
+    };
     let done = queue::pop_used(
-        core, 64, words, lens, halves, sides, token, addrs, sizes, outs, one, two, pool,
+        Core::from(p),
+        &mut tables,
+        token,
+        list.buffers(),
+        one,
+        two,
+        pool,
     );
-    let plain = plain_of(done.core);
-    LentAnswer {
-        answer: done.answer,
-        value: done.value,
-        steps: done.steps,
-        plain,
-    }
+    LentAnswer::from(done)
 }
 
 // queue's peek_used, over tables at the limit.
@@ -329,13 +226,12 @@ pub fn mayketura_peek_used_lent(
 ) -> LentAnswer
     ensures { answer_of (lent_is result words.new lens.new halves.new sides.new) (memory one.new two.now pool.new) ≡ peek_used (abs (lent_of p words.old lens.old halves.old sides.old)) (memory one.old two.now pool.old) }
 {
-    let core = core_of(p);
-    let done = queue::peek_used(core, 64, words, lens, halves, sides, one, two, pool);
-    let plain = plain_of(done.core);
-    LentAnswer {
-        answer: done.answer,
-        value: done.value,
-        steps: done.steps,
-        plain,
-    }
+    let mut tables = TablesMut {
+        room: 64,
+        words,
+        lens,
+        halves,
+        sides,
+    };
+    LentAnswer::from(queue::peek_used(Core::from(p), &mut tables, one, two, pool))
 }

@@ -3,10 +3,12 @@ ghost use Rattle.std.specs.Prelude.{◌≡◌};
 ghost use Rattle.rules.specs.Calls.{can_pop, should_notify, set_dev_notify};
 ghost use Rattle.access.specs.Accesses.{memory};
 ghost use Rattle.record.specs.Abs.{abs};
-ghost use Rattle.record.specs.Asked.{answer_of};
-ghost use Rattle.exports.specs.Flat.{queue_of, lent_of, answer_is, lent_is};
+ghost use Rattle.exports.specs.Flat.{queue_of, lent_of, answer_is, lent_is, answer_of};
 
-use crate::{Flat, FlatAnswer, LentAnswer, Plain, core_of, flat_of, plain_of, queue_of};
+use crate::{Flat, FlatAnswer, LentAnswer, Plain};
+use record::Queue;
+use tables::TablesRef;
+use views::Core;
 
 // ---- the record by value
 
@@ -14,30 +16,14 @@ use crate::{Flat, FlatAnswer, LentAnswer, Plain, core_of, flat_of, plain_of, que
 pub fn mayketura_can_pop<'a>(q: Flat, one: &'a [u8], two: &'a [u8], pool: &[u8]) -> FlatAnswer
     ensures { answer_of (answer_is result) (memory one.now two.now pool.now) ≡ can_pop (abs (queue_of q)) (memory one.now two.now pool.now) }
 {
-    let queue = queue_of(q);
-    let done = queue.can_pop(one, two, pool);
-    let after = flat_of(done.queue);
-    FlatAnswer {
-        answer: done.answer,
-        value: done.value,
-        steps: done.steps,
-        queue: after,
-    }
+    FlatAnswer::from(Queue::from(q).can_pop(one, two, pool))
 }
 
 // record's should_notify.
 pub fn mayketura_should_notify<'a>(q: Flat, one: &'a [u8], two: &'a [u8], pool: &[u8]) -> FlatAnswer
     ensures { answer_of (answer_is result) (memory one.now two.now pool.now) ≡ should_notify (abs (queue_of q)) (memory one.now two.now pool.now) }
 {
-    let queue = queue_of(q);
-    let done = queue.should_notify(one, two, pool);
-    let after = flat_of(done.queue);
-    FlatAnswer {
-        answer: done.answer,
-        value: done.value,
-        steps: done.steps,
-        queue: after,
-    }
+    FlatAnswer::from(Queue::from(q).should_notify(one, two, pool))
 }
 
 // record's set_dev_notify.
@@ -50,15 +36,7 @@ pub fn mayketura_set_dev_notify(
 ) -> FlatAnswer
     ensures { answer_of (answer_is result) (memory one.new two.now pool.now) ≡ set_dev_notify (abs (queue_of q)) (memory one.old two.now pool.now) wanted }
 {
-    let queue = queue_of(q);
-    let done = queue.set_dev_notify(wanted, one, two, pool);
-    let after = flat_of(done.queue);
-    FlatAnswer {
-        answer: done.answer,
-        value: done.value,
-        steps: done.steps,
-        queue: after,
-    }
+    FlatAnswer::from(Queue::from(q).set_dev_notify(wanted, one, two, pool))
 }
 
 // ---- the record's tables lent
@@ -76,15 +54,15 @@ pub fn mayketura_can_pop_lent<'a>(
 ) -> LentAnswer
     ensures { answer_of (lent_is result words.now lens.now halves.now sides.now) (memory one.now two.now pool.now) ≡ can_pop (abs (lent_of p words.now lens.now halves.now sides.now)) (memory one.now two.now pool.now) }
 {
-    let core = core_of(p);
-    let done = asks::can_pop(core, 64, words, lens, halves, sides, one, two, pool);
-    let plain = plain_of(done.core);
-    LentAnswer {
-        answer: done.answer,
-        value: done.value,
-        steps: done.steps,
-        plain,
-    }
+    let tables = TablesRef {
+        room: 64,
+        words,
+        lens,
+        halves,
+        sides,
+    };
+    let done = asks::can_pop(Core::from(p), &tables, one, two, pool);
+    LentAnswer::from(done)
 }
 
 // asks' should_notify, over tables at the limit.
@@ -100,15 +78,15 @@ pub fn mayketura_should_notify_lent<'a>(
 ) -> LentAnswer
     ensures { answer_of (lent_is result words.now lens.now halves.now sides.now) (memory one.now two.now pool.now) ≡ should_notify (abs (lent_of p words.now lens.now halves.now sides.now)) (memory one.now two.now pool.now) }
 {
-    let core = core_of(p);
-    let done = asks::should_notify(core, 64, words, lens, halves, sides, one, two, pool);
-    let plain = plain_of(done.core);
-    LentAnswer {
-        answer: done.answer,
-        value: done.value,
-        steps: done.steps,
-        plain,
-    }
+    let tables = TablesRef {
+        room: 64,
+        words,
+        lens,
+        halves,
+        sides,
+    };
+    let done = asks::should_notify(Core::from(p), &tables, one, two, pool);
+    LentAnswer::from(done)
 }
 
 // asks' set_dev_notify, over tables at the limit.
@@ -125,13 +103,13 @@ pub fn mayketura_set_dev_notify_lent(
 ) -> LentAnswer
     ensures { answer_of (lent_is result words.now lens.now halves.now sides.now) (memory one.new two.now pool.now) ≡ set_dev_notify (abs (lent_of p words.now lens.now halves.now sides.now)) (memory one.old two.now pool.now) wanted }
 {
-    let core = core_of(p);
-    let done = asks::set_dev_notify(core, 64, words, lens, halves, sides, wanted, one, two, pool);
-    let plain = plain_of(done.core);
-    LentAnswer {
-        answer: done.answer,
-        value: done.value,
-        steps: done.steps,
-        plain,
-    }
+    let tables = TablesRef {
+        room: 64,
+        words,
+        lens,
+        halves,
+        sides,
+    };
+    let done = asks::set_dev_notify(Core::from(p), &tables, wanted, one, two, pool);
+    LentAnswer::from(done)
 }

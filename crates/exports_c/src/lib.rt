@@ -7,8 +7,8 @@ ghost use Rattle.rules.specs.New.{new as new_is};
 ghost use Rattle.opens.specs.Given.{given};
 ghost use Rattle.access.specs.Accesses.{memory};
 ghost use Rattle.record.specs.Abs.{abs};
-ghost use Rattle.record.specs.Asked.{answer_of, ask_of, made_of};
-ghost use Rattle.exports.specs.Flat.{queue_of, lent_of, ask_is, made_is, answer_is, lent_is};
+ghost use Rattle.record.specs.Asked.{ask_of};
+ghost use Rattle.exports.specs.Flat.{queue_of, lent_of, ask_is, made_is, answer_is, lent_is, made_of, answer_of};
 
 use exports::{Flat, FlatAnswer, FlatAsk, FlatMade, LentAnswer, Plain};
 

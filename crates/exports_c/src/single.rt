@@ -3,8 +3,7 @@ ghost use Rattle.std.specs.Prelude.{◌≡◌};
 ghost use Rattle.rules.specs.Calls.{can_pop, should_notify, set_dev_notify};
 ghost use Rattle.access.specs.Accesses.{memory};
 ghost use Rattle.record.specs.Abs.{abs};
-ghost use Rattle.record.specs.Asked.{answer_of};
-ghost use Rattle.exports.specs.Flat.{queue_of, lent_of, answer_is, lent_is};
+ghost use Rattle.exports.specs.Flat.{queue_of, lent_of, answer_is, lent_is, answer_of};
 
 use exports::{Flat, FlatAnswer, LentAnswer, Plain};
 

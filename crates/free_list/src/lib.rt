@@ -2,46 +2,28 @@
 // is that of a walk link by link.
 #![tactic(auto)]
 
-ghost use Rattle.std.specs.Prelude.{◌+◌, ◌≤◌, ◌<◌, length};
+ghost use Rattle.std.specs.Prelude.{◌≡◌, ℕ, ◌+◌, ◌≤◌, ◌<◌, length};
 ghost use Rattle.lists.specs.Asked.{Bounded};
 ghost use Rattle.lists.specs.Marks.{Marks, marks_in};
-ghost use Rattle.lists.specs.Runs.{Up, Down, Begins};
+ghost use Rattle.lists.specs.Runs.{Begins};
 ghost use Rattle.views.specs.Views.{at};
+ghost use Rattle.free_list.specs.Linked.{Linked};
 
 use marks::mark_run;
 
-// The smaller of two numbers.
-fn least(a: u16, b: u16) -> u16
-    ensures { (result ≤ a) × (result ≤ b) × ((0 < a) → (0 < b) → 0 < result) }
+// How long a run is, counted up to `most`: `ith` gives its numbers in order, and each of them but the last links to the next.
+fn run_length<F: Fn(u16) -> u16>(next: &[u16], most: u16, ith: F) -> u16
+    requires some { 0 < most }
+    requires within { (i : ℕ) → i < most → F.pre ith i × ((j : ℕ) → F.post ith i j → j < length next.now) }
+    ensures counted { (0 < result) × (result ≤ most) }
+    ensures linked { (i : ℕ) → i + 1 < result → Linked (F.post ith) (at next.now) i }
 {
-    if a < b { a } else { b }
-}
-
-// How long a run from d on rises by one, counted up to `most`.
-fn up(n: u16, next: &[u16], d: u16, most: u16) -> u16
-    requires { (d + most ≤ n) × (0 < most) × (n ≤ length next.now) }
-    ensures { Up most (at next.now) d result }
-{
-    let last = most - 1;
-    let mut i: u16 = 0;
-    while i < last && next[(d + i) as usize] == d + i + 1 {
-        i += 1;
+    for i in 1..most {
+        if next[ith(i - 1) as usize] != ith(i) {
+            return i;
+        }
     }
-    i + 1
-}
-
-// How long a run from d on falls by one, counted up to `most`.
-fn down(n: u16, next: &[u16], d: u16, most: u16) -> u16
-    requires d_lt_n { (d < n) × (0 < most) × (most ≤ d + 1) }
-    requires n_in_bounds { n ≤ length next.now }
-    ensures { Down most (at next.now) d result }
-{
-    let last = most - 1;
-    let mut i: u16 = 0;
-    while i < last && next[(d - i) as usize] == d - i - 1 {
-        i += 1;
-    }
-    i + 1
+    most
 }
 
 // The first run of a walk: `count` numbers from `low` on, which share a word of marks, and the one of them that the walk leaves by.
@@ -52,26 +34,26 @@ struct Run {
     last: u16,
 }
 
-// The first run of the k numbers from d on.
+// The first run of the k numbers from d on, which falls or rises.
 fn first_run(n: u16, next: &[u16], k: u16, d: u16) -> Run
     requires { (d < n) × (0 < k) × (n ≤ length next.now) }
     ensures { Begins n (at next.now) k d result.low result.count result.last }
 {
     if next[d as usize] < d {
-        let c = down(n, next, d, least(k, d % 64 + 1));
-        let end = d - (c - 1);
+        let count = run_length(next, k.min(d % 64 + 1), |i| d - i);
+        let last = d - (count - 1);
         return Run {
-            low: end,
-            count: c,
-            last: end,
+            low: last,
+            count,
+            last,
         };
     }
-    let room = least(64 - d % 64, n - d);
-    let c = up(n, next, d, least(k, room));
+    let room = (64 - d % 64).min(n - d);
+    let count = run_length(next, k.min(room), |i| d + i);
     Run {
         low: d,
-        count: c,
-        last: d + (c - 1),
+        count,
+        last: d + (count - 1),
     }
 }
 
@@ -87,8 +69,7 @@ pub fn free_walk(n: u16, next: &[u16], seen: &mut [u64], k: u16, i: u16) -> bool
         if !mark_run(seen, run.low as usize, run.count as usize) {
             return false;
         }
-        let last = run.last;
-        let x = next[last as usize];
+        let x = next[run.last as usize];
         if n <= x {
             return false;
         }

@@ -14,11 +14,7 @@ pub fn clear(s: &mut [u8], from: usize, count: usize)
     requires { from + count ≤ length s.old }
     ensures { s.new ≡ cleared s.old from count }
 {
-    let mut i: usize = 0;
-    while i < count {
-        s[from + i] = 0;
-        i += 1;
-    }
+    s[from..from + count].fill(0);
 }
 
 // Stores n empty descriptors at the start of the table, each linked to the next, the last to 0.
@@ -26,17 +22,14 @@ pub fn link_table(s: &mut [u8], n: u16)
     requires { 16 * n ≤ length s.old }
     ensures { s.new ≡ put_descs s.old 0 (linked n) }
 {
-    let mut i: u16 = 0;
-    while i < n {
-        let next = next_of(i, n);
+    for i in 0..n {
         let d = Desc {
             addr: 0,
             len: 0,
             flags: 0,
-            next,
+            next: next_of(i, n),
         };
-        store_desc(s, 16 * (i as usize), d);
-        i += 1;
+        store_desc(s, 16 * usize::from(i), d);
     }
 }
 
@@ -53,9 +46,7 @@ pub fn link_nexts(halves: &mut [u16], n: u16)
     requires { n ≤ length halves.old }
     ensures { halves.new ≡ sets halves.old 0 (nexts_from n 0) }
 {
-    let mut i: u16 = 0;
-    while i < n {
-        halves[i as usize] = next_of(i, n);
-        i += 1;
+    for i in 0..n {
+        halves[usize::from(i)] = next_of(i, n);
     }
 }

@@ -8,12 +8,12 @@ ghost use Rattle.lists.specs.Index.{after as after_is, ahead as ahead_is};
 pub fn after(x: u16) -> u16
     ensures { result ≡ after_is x }
 {
-    std::num::wrapping_add_u16(x, 1)
+    x.wrapping_add(1)
 }
 
 // How far the index a is ahead of the index b, across the wrap.
 pub fn ahead(a: u16, b: u16) -> u16
     ensures { result ≡ ahead_is a b }
 {
-    std::num::wrapping_sub_u16(a, b)
+    a.wrapping_sub(b)
 }

@@ -1,10 +1,9 @@
 -- The held buffer of an owning record added again, under the token that it had.
-use Rattle.std.specs.Prelude.{◌≡◌, true, ℕ, ◌*◌, ◌≤◌, ◌<◌}
+use Rattle.std.specs.Prelude.{None, ◌≡◌, true, ℕ, ◌*◌, ◌≤◌, ◌<◌}
 use Rattle.std.proofs.Common.{sym, subst, ◌∙◌, inl, arith}
 use Rattle.std.proofs.Math.Path.{ap}
 use Rattle.lists.specs.Tests.{by_eq}
 use Rattle.virtio.specs.Memory.{Memory}
-use Rattle.rules.specs.declared.Held.TheVariants.{Nothing}
 use Rattle.rules.specs.Record.{Queue, buffers_of}
 use Rattle.rules.specs.Meaning.{Out, Based}
 use Rattle.rules.specs.Calls.{fits, add_refusal, add}
@@ -37,7 +36,7 @@ module _ (o : Owning) (g : OwnGood o) (m : Memory) (t : ℕ) (x : InHand o t) (f
 
   -- the record with it back
   abbrev p : Owning
-  p = record { queue = (add q m (own_list o t)).queue; base = o.base; size = o.size; held = Nothing }
+  p = record { queue = (add q m (own_list o t)).queue; base = o.base; size = o.size; held = None }
 
   own_away : Away p t
   own_away =
@@ -63,5 +62,5 @@ module _ (o : Owning) (g : OwnGood o) (m : Memory) (t : ℕ) (x : InHand o t) (f
       }
 
   -- THE LAW: the record with it back, and nothing held, is good, so that all tokens are out with their own buffers
-  pub back_good : OwnGood (record { queue = (add o.queue m (own_list o t)).queue; base = o.base; size = o.size; held = Nothing })
+  pub back_good : OwnGood (record { queue = (add o.queue m (own_list o t)).queue; base = o.base; size = o.size; held = None })
   back_good = record { good = made.good; well = means_own p back_well }

@@ -1,10 +1,9 @@
 -- A poll looks which token waits, and then pops it. Between the two the device may write: the token is then any number, and the memory any other.
 -- What comes of it is what a poll over that memory comes to, or the pop's refusal with the record as it was; and so a good record stays good.
-use Rattle.std.specs.Prelude.{◌≡◌, ◌⊎◌, cond, List, ℕ, ◌*◌, ◌≤◌, ◌<◌, ltb, length}
+use Rattle.std.specs.Prelude.{None, ◌≡◌, ◌⊎◌, cond, List, ℕ, ◌*◌, ◌≤◌, ◌<◌, ltb, length}
 use Rattle.std.proofs.Common.{sym, ap, subst, ◌∙◌, inl, inr, arith, lt-ltb, ne_eqb, ltb-true}
 use Rattle.lists.specs.Tests.{by_test, by_eq}
 use Rattle.virtio.specs.Memory.{Memory}
-use Rattle.rules.specs.declared.Held.TheVariants.{Nothing}
 use Rattle.rules.specs.Record.{Queue}
 use Rattle.rules.specs.Answer.{NotReady, WrongToken}
 use Rattle.rules.specs.Calls.{fits, call_refusal, matches, pop_used}
@@ -45,7 +44,7 @@ module _ (o : Owning) (t : ℕ) (m : Memory) (s : List ℕ) where
         ∙ rw (ne_eqb a 0 d);
   }
 
-  module _ (n : o.held ≡ Nothing) (g : OwnGood o) (room : o.queue.n * o.size ≤ length s) where
+  module _ (n : o.held ≡ None) (g : OwnGood o) (room : o.queue.n * o.size ≤ length s) where
     -- the pop is not refused: the waiting element names the token still
     as_poll : call_refusal o.queue m ≡ 0 → (used_idx_of o.queue m ≡ o.queue.counts.last → ⊥) → pop_verdict o.queue m t (own_list o t) ≡ 0 → poll_token o t m s ≡ poll o m s
     as_poll e d f =

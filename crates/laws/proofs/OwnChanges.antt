@@ -1,6 +1,6 @@
 -- Which bytes of shared memory the owning queue's calls may change. Poll and release: one token's descriptor, its slot of the available ring, that ring's
 -- idx, and used_event where it is in use. New: descriptors, slots of the available ring, and its idx. No call changes the used ring, in either layout, nor region two.
-use Rattle.std.specs.Prelude.{◌≡◌, ◌⊎◌, Bool, true, false, cond, List, [], ◌∷◌, ◌++◌, map, ltb, leb, eqb}
+use Rattle.std.specs.Prelude.{Option, None, Some, ◌≡◌, ◌⊎◌, Bool, true, false, cond, List, [], ◌∷◌, ◌++◌, map, ltb, leb, eqb}
 use Rattle.std.proofs.Math.Path.{refl, subst}
 use Rattle.std.proofs.Common.{sym, ap, ap₂, ◌∙◌, inl, inr, arith, mod-lt}
 use Rattle.std.proofs.Math.Bool.{and-false}
@@ -13,11 +13,10 @@ use Rattle.virtio.specs.declared.Buffer.{Buffer}
 use Rattle.virtio.specs.Memory.{Memory, Region, Place, desc, entry, avail_ring, avail_idx, spot, used_ring}
 use Rattle.rules.specs.declared.Modes.{Modes}
 use Rattle.rules.specs.declared.Held.{Held}
-use Rattle.rules.specs.declared.Held.TheVariants.{Nothing, Holds}
 use Rattle.rules.specs.Record.{Queue, next_of}
 use Rattle.rules.specs.Answer.{Outcome}
 use Rattle.rules.specs.Calls.{add_refusal, add, pop_used}
-use Rattle.rules.specs.Owning.{Owning, Owned, own_buffer, own_list, add_own, own_new_refusal, own_new, poll_refusal, poll, release_refusal, released, release}
+use Rattle.rules.specs.Owning.{holds, Owning, Owned, own_buffer, own_list, add_own, own_new_refusal, own_new, poll_refusal, poll, release_refusal, released, release}
 use Rattle.laws.specs.Changes.{Lies, Clear, SameByte, publishing, event_places, add_places, pop_places}
 use Rattle.laws.specs.CallKeeps.{Good, pop_keeps}
 use Rattle.laws.proofs.CallChanges.{add_changes, pop_changes}
@@ -116,13 +115,13 @@ module _ (P : Memory → Type 0) where
         (λ l. here)))
         (λ e. here)
 
-    release_leaves : P m → ((t l : ℕ) → o.held ≡ Holds t l → P (add o.queue m (own_list o t)).memory) → P (release o m s).memory
+    release_leaves : P m → ((t l : ℕ) → o.held ≡ holds t l → P (add o.queue m (own_list o t)).memory) → P (release o m s).memory
     unfolding release
     release_leaves here adds = either_holds (eqb (release_refusal o m s) 0) _ _ (λ e. go o.held refl) (λ e. here)
       where
-        go : (h : Held) → o.held ≡ h → P (released o h m s).memory
-        go Nothing f = here
-        go (Holds t l) f = adds t l f
+        go : (h : Option Held) → o.held ≡ h → P (released o h m s).memory
+        go None f = here
+        go (Some h) f = adds h.token h.len f
 
 -- ---- THE LAWS: the used ring and region two stay
 
@@ -198,7 +197,7 @@ module _ (q : Queue) (t : ℕ) (r : Region) (i : ℕ) where
 
 module _ (o : Owning) (m : Memory) (s : List ℕ) (g : OwnGood o) (r : Region) (i : ℕ) where
   -- THE LAW of release: with nothing held no byte is changed
-  pub release_changes : ((t l : ℕ) → o.held ≡ Holds t l → Clear o.queue (giving_places o.queue t) r i) → SameByte r i (release o m s).memory m
+  pub release_changes : ((t l : ℕ) → o.held ≡ holds t l → Clear o.queue (giving_places o.queue t) r i) → SameByte r i (release o m s).memory m
   release_changes c =
       release_leaves (λ x. SameByte r i x m) o m s refl
       (λ t l h. add_changes o.queue m (own_list o t) g.good r i

@@ -1,7 +1,7 @@
 -- What the owning queue's answers may depend on. Of shared memory: on whether it is large enough; a poll on used idx and on the id and the length of the
 -- element that it looks at; should_notify on the field that it loads; new, release and set_dev_notify on nothing else. Of the store: on its length alone.
 -- And what becomes of the store: new clears the buffers, and no other call changes it.
-use Rattle.std.specs.Prelude.{◌≡◌, Bool, true, false, cond, ◌&&◌, List, [], ◌∷◌, ◌++◌, ltb, leb, length, replicate, drop}
+use Rattle.std.specs.Prelude.{Option, None, Some, ◌≡◌, Bool, true, false, cond, ◌&&◌, List, [], ◌∷◌, ◌++◌, ltb, leb, length, replicate, drop}
 use Rattle.std.proofs.Math.Path.{refl, ap}
 use Rattle.std.proofs.Common.{sym, ap₂, ◌∙◌, true≢false, arith, leb-true}
 use Rattle.std.proofs.lemmas.Bool.{false≢true, not-false}
@@ -16,14 +16,13 @@ use Rattle.virtio.specs.declared.Buffer.{Buffer}
 use Rattle.virtio.specs.Memory.{Memory, Place, used_idx, spot, load_at}
 use Rattle.rules.specs.declared.Open.TheVariants.{PopIdx}
 use Rattle.rules.specs.declared.Held.{Held}
-use Rattle.rules.specs.declared.Held.TheVariants.{Nothing, Holds}
 use Rattle.rules.specs.Record.{Queue, with_call}
 use Rattle.rules.specs.WellFormed.{base_ok}
 use Rattle.rules.specs.Answer.{Outcome, OverLength}
 use Rattle.rules.specs.Step.{token_of}
 use Rattle.rules.specs.Calls.{fits, add_refusal, call_refusal, add_opened, opened, matches, add, pop_used}
 use Rattle.rules.specs.New.{lends}
-use Rattle.rules.specs.Owning.{Owning, View, no_view, part, Owned, own_buffer, own_list, own_new_tests, own_new_refusal, add_own, own_new}
+use Rattle.rules.specs.Owning.{holds, Owning, View, no_view, part, Owned, own_buffer, own_list, own_new_tests, own_new_refusal, add_own, own_new}
 use Rattle.rules.specs.Owning.{own_fits, poll_tests, poll_refusal, release_tests, release_refusal, own_well_formed}
 use Rattle.rules.specs.Owning.{poll_popped, poll_token, poll, released, release, own_should_notify, own_set_dev_notify}
 use Rattle.laws.specs.Depends.{Told, told, SameAt, id_now, len_now}
@@ -88,8 +87,8 @@ module _ (o : Owning) (m m' : Memory) (s s' : List ℕ) (f : fits o.queue m ≡ 
   popped_alike p r e g t =
       own_told_if (eqb p.answer 0) (eqb r.answer 0) _ _ _ _ (ap (λ (x : Told). eqb x.answer 0) e)
       (own_told_if (leb p.value o.size) (leb r.value o.size) _ _ _ _ (ap (λ (x : Told). leb x.value o.size) e)
-      (ap (λ (x : Told). record { answer = 0; value = t; view = part (t * o.size) x.value; owning = record { queue = x.queue; base = o.base; size = o.size; held = Holds t x.value } }) e)
-      (ap (λ (x : Told). record { answer = OverLength; value = 0; view = no_view; owning = record { queue = x.queue; base = o.base; size = o.size; held = Nothing } }) (adds_alike p r e g (own_list o t))))
+      (ap (λ (x : Told). record { answer = 0; value = t; view = part (t * o.size) x.value; owning = record { queue = x.queue; base = o.base; size = o.size; held = holds t x.value } }) e)
+      (ap (λ (x : Told). record { answer = OverLength; value = 0; view = no_view; owning = record { queue = x.queue; base = o.base; size = o.size; held = None } }) (adds_alike p r e g (own_list o t))))
       (ap (λ (x : Told). record { answer = x.answer; value = x.value; view = no_view; owning = record { queue = x.queue; base = o.base; size = o.size; held = o.held } }) e)
 
   -- THE LAW of poll
@@ -120,11 +119,11 @@ module _ (o : Owning) (m m' : Memory) (s s' : List ℕ) (f : fits o.queue m ≡ 
       (given_alike o.held)
       (ap (λ b. record { answer = first (release_tests o b); value = 0; view = no_view; owning = o }) same_fits)
     where
-      given_alike : (h : Held) → own_told (released o h m s) ≡ own_told (released o h m' s')
-      given_alike Nothing = refl
-      given_alike (Holds t k) =
-          ap (λ (x : Told). record { answer = x.answer; value = x.value; view = no_view; owning = record { queue = x.queue; base = o.base; size = o.size; held = Nothing } })
-          (add_alike q m m' f (own_list o t))
+      given_alike : (h : Option Held) → own_told (released o h m s) ≡ own_told (released o h m' s')
+      given_alike None = refl
+      given_alike (Some h) =
+          ap (λ (x : Told). record { answer = x.answer; value = x.value; view = no_view; owning = record { queue = x.queue; base = o.base; size = o.size; held = None } })
+          (add_alike q m m' f (own_list o h.token))
 
 -- THE LAWS of what passes through, which needs no store
 module _ (o : Owning) (m m' : Memory) (s s' : List ℕ) (f : fits o.queue m ≡ fits o.queue m') where
@@ -168,9 +167,9 @@ module _ (q : Queue) (base size : ℕ) (m m' : Memory) (s s' : List ℕ) (f : fi
   unfolding own_new
   new_alike =
       own_told_if (eqb (own_new_refusal q base size m s) 0) (eqb (own_new_refusal q base size m' s') 0) _ _ _ _ (ap (λ b. eqb (first (own_new_tests q size b)) 0) same_lent)
-      (ap (λ (x : Told). record { answer = 0; value = 0; view = no_view; owning = record { queue = x.queue; base = base; size = size; held = Nothing } })
+      (ap (λ (x : Told). record { answer = 0; value = 0; view = no_view; owning = record { queue = x.queue; base = base; size = size; held = None } })
       (adding_alike base size q.n 0 (opened q m) (opened q m') refl f))
-      (ap (λ b. record { answer = first (own_new_tests q size b); value = 0; view = no_view; owning = record { queue = q; base = 0; size = 0; held = Nothing } }) same_lent)
+      (ap (λ b. record { answer = first (own_new_tests q size b); value = 0; view = no_view; owning = record { queue = q; base = 0; size = 0; held = None } }) same_lent)
 
 -- ---- what becomes of the store
 
@@ -199,9 +198,9 @@ module _ (o : Owning) (m : Memory) (s : List ℕ) where
   unfolding release
   release_store = either_store (eqb (release_refusal o m s) 0) _ _ s (given_store o.held) refl
     where
-      given_store : (h : Held) → (released o h m s).store ≡ s
-      given_store Nothing = refl
-      given_store (Holds t k) = refl
+      given_store : (h : Option Held) → (released o h m s).store ≡ s
+      given_store None = refl
+      given_store (Some h) = refl
 
   pub should_notify_store : (own_should_notify o m s).store ≡ s
   unfolding own_should_notify

@@ -1,12 +1,11 @@
 -- Every call of the owning queue leaves a good record good, whatever the device writes. So no buffer is lost or doubled.
-use Rattle.std.specs.Prelude.{◌≡◌, refl, ◌⊎◌, false, List, [], ◌∷◌, ℕ, ◌≤◌, ◌<◌, ltb, leb}
+use Rattle.std.specs.Prelude.{Option, None, Some, ◌≡◌, refl, ◌⊎◌, false, List, [], ◌∷◌, ℕ, ◌≤◌, ◌<◌, ltb, leb}
 use Rattle.std.proofs.Common.{ap₂, ◌∙◌, inl, inr, arith, ltb-true, ltb-false, leb-true, leb-false}
 use Rattle.std.proofs.Math.Path.{ap}
 use Rattle.std.proofs.Math.Bool.{cond}
 use Rattle.lists.specs.Tests.{by_test, by_eq}
 use Rattle.virtio.specs.Memory.{Memory}
 use Rattle.rules.specs.declared.Held.{Held}
-use Rattle.rules.specs.declared.Held.TheVariants.{Nothing, Holds}
 use Rattle.rules.specs.Owning.{Owning, Owned, own_buffer, holds_none, poll_refusal, release_refusal}
 use Rattle.rules.specs.Owning.{poll, release, own_should_notify, own_set_dev_notify}
 use Rattle.laws.specs.Popped.{used_idx_of}
@@ -54,10 +53,10 @@ module _ (o : Owning) (m : Memory) (s : List ℕ) (g : OwnGood o) where
       (λ l. as_was o m s g (poll o m s) 4 (poll_wrong o m s e d (ltb-false (poll_named o m) o.queue.n l)))))
       (λ e. as_was o m s g (poll o m s) (poll_refusal o m s) (poll_refused o m s e))
 
-  release_held : release_refusal o m s ≡ 0 → (x : Held) → o.held ≡ x → holds_none x ≡ false → Keeps o s (release o m s)
-  release_held e Nothing f z = absurd (let y : ◌≡◌ {A = ℕ} 0 1 = ap (λ b. cond b 0 1) z in omega arith)
-  release_held e (Holds t l) f z =
-      known (release o m s) _ (release_done o m s g e t l f) (release_good o m s g e t l f) refl refl refl refl
+  release_held : release_refusal o m s ≡ 0 → (x : Option Held) → o.held ≡ x → holds_none x ≡ false → Keeps o s (release o m s)
+  release_held e None f z = absurd (let y : ◌≡◌ {A = ℕ} 0 1 = ap (λ b. cond b 0 1) z in omega arith)
+  release_held e (Some h) f z =
+      known (release o m s) _ (release_done o m s g e h.token h.len f) (release_good o m s g e h.token h.len f) refl refl refl refl
 
   pub release_keeps : Keeps o s (release o m s)
   release_keeps =

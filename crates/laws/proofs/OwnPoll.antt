@@ -1,15 +1,14 @@
 -- Poll and release, exactly: a buffer given back, and one whose length is above the size; and poll in one equation.
-use Rattle.std.specs.Prelude.{◌≡◌, refl, Bool, true, false, List, ℕ, ◌*◌, ◌≤◌, ◌<◌, ltb, leb, eqb, length}
+use Rattle.std.specs.Prelude.{None, ◌≡◌, refl, Bool, true, false, List, ℕ, ◌*◌, ◌≤◌, ◌<◌, ltb, leb, eqb, length}
 use Rattle.std.proofs.Common.{sym, subst, ◌∙◌, arith, eqb-true, ltb-true, ltb-false, leb-true, leb-false}
 use Rattle.std.proofs.Math.Path.{ap}
 use Rattle.std.proofs.Math.Bool.{cond}
 use Rattle.std.proofs.lemmas.Bool.{lt-leb, eqb-false}
 use Rattle.virtio.specs.Memory.{Memory}
-use Rattle.rules.specs.declared.Held.TheVariants.{Nothing, Holds}
 use Rattle.rules.specs.Record.{Queue}
 use Rattle.rules.specs.Answer.{Outcome, OverLength}
 use Rattle.rules.specs.Calls.{fits, add}
-use Rattle.rules.specs.Owning.{Owning, Owned, no_view, own_buffer, own_list, holds_none, poll_refusal, release_refusal}
+use Rattle.rules.specs.Owning.{holds, Owning, Owned, no_view, own_buffer, own_list, holds_none, poll_refusal, release_refusal}
 use Rattle.rules.specs.Owning.{plainly, poll, released, release}
 use Rattle.laws.specs.Popped.{used_idx_of}
 use Rattle.laws.specs.OwnIs.{Away, InHand, OwnGood, own_means, all_away}
@@ -20,7 +19,7 @@ use Rattle.laws.specs.OwnPoll.{poll_refused, release_goes, given_back, republish
 
 -- ---- release
 
-module _ (o : Owning) (m : Memory) (s : List ℕ) (g : OwnGood o) (e : release_refusal o m s ≡ 0) (t l : ℕ) (h : o.held ≡ Holds t l) where
+module _ (o : Owning) (m : Memory) (s : List ℕ) (g : OwnGood o) (e : release_refusal o m s ≡ 0) (t l : ℕ) (h : o.held ≡ holds t l) where
   hand : InHand o t
   hand = (own_means o g.well).holding t l h
 
@@ -32,20 +31,20 @@ module _ (o : Owning) (m : Memory) (s : List ℕ) (g : OwnGood o) (e : release_r
     answer = 0;
     value = t;
     view = no_view;
-    owning = record { queue = given_back o t o.queue; base = o.base; size = o.size; held = Nothing };
+    owning = record { queue = given_back o t o.queue; base = o.base; size = o.size; held = None };
     memory = republished o t o.queue m;
     store = s;
   }
   release_done =
       release_goes o m s e
       ∙ ap (λ x. released o x m s) h
-      ∙ ap (λ (p : Outcome). plainly o p.answer p.value p.queue Nothing p.memory s) (back_done o g m t hand fit)
+      ∙ ap (λ (p : Outcome). plainly o p.answer p.value p.queue None p.memory s) (back_done o g m t hand fit)
 
   -- THE LAWS: the record is good again, and the token out with its own buffer
   pub release_good : OwnGood (release o m s).owning
   release_good =
       subst OwnGood
-      (ap (λ (p : Outcome). record { queue = p.queue; base = o.base; size = o.size; held = Nothing }) (back_done o g m t hand fit)
+      (ap (λ (p : Outcome). record { queue = p.queue; base = o.base; size = o.size; held = None }) (back_done o g m t hand fit)
       ∙ ap (λ (r : Owned). r.owning) (sym release_done))
       (back_good o g m t hand fit)
 
@@ -58,7 +57,7 @@ module _ (o : Owning) (m : Memory) (s : List ℕ) (g : OwnGood o) (e : release_r
 
 -- THE LAW: a held buffer can always be given back: over memory and a store that do, release answers 0 and the held token
 pub release_answers : (o : Owning) (m : Memory) (s : List ℕ) → OwnGood o → fits o.queue m ≡ true → o.queue.n * o.size ≤ length s
-    → (t l : ℕ) → o.held ≡ Holds t l → ((release o m s).answer ≡ 0) × ((release o m s).value ≡ t)
+    → (t l : ℕ) → o.held ≡ holds t l → ((release o m s).answer ≡ 0) × ((release o m s).value ≡ t)
 release_answers o m s g f r t l h =
     let a : ReleaseAllowed o m s = record { well = g.well; fit = f; room = r; some = ap holds_none h } in
     let e = release_done o m s g (allowed_release o m s a) t l h in
@@ -75,7 +74,7 @@ module _ (o : Owning) (m : Memory) (s : List ℕ) (e : poll_refusal o m s ≡ 0)
 
   -- the record in which the buffer is held with no byte shown
   abbrev p : Owning
-  p = record { queue = taken_out o m; base = o.base; size = o.size; held = Holds t 0 }
+  p = record { queue = taken_out o m; base = o.base; size = o.size; held = holds t 0 }
 
   -- that is as if it had been held with no byte shown, and released
   none : 0 ≤ o.size
@@ -92,12 +91,12 @@ module _ (o : Owning) (m : Memory) (s : List ℕ) (e : poll_refusal o m s ≡ 0)
       poll_pops o m s e d g b
       ∙ ap (λ c. cond c (poll_shown o m s) (over o m s e d g b))
       (lt-leb (poll_len o m) o.size l)
-      ∙ ap (λ (r : Outcome). plainly o OverLength 0 r.queue Nothing r.memory s) again_done
+      ∙ ap (λ (r : Outcome). plainly o OverLength 0 r.queue None r.memory s) again_done
 
   pub poll_over_good : o.size < poll_len o m → OwnGood (poll o m s).owning
   poll_over_good l =
       subst OwnGood
-      (ap (λ (r : Outcome). record { queue = r.queue; base = o.base; size = o.size; held = Nothing }) again_done
+      (ap (λ (r : Outcome). record { queue = r.queue; base = o.base; size = o.size; held = None }) again_done
       ∙ ap (λ (r : Owned). r.owning) (sym (poll_over l)))
       (back_good p (held_good o m s e d g b 0 none) (taken_memory o m) t (in_hand o m s e d g b 0 none t 0 b refl) (taken_fit o m s e d g b))
 

@@ -2,8 +2,7 @@
 use Rattle.std.specs.Prelude.{◌≡◌, List, ℕ, ◌*◌, ◌≤◌, length}
 use Rattle.std.proofs.Common.{sym, ap, ap₂, ◌∙◌, arith}
 use Rattle.virtio.specs.Memory.{Memory}
-use Rattle.rules.specs.declared.Held.TheVariants.{Holds}
-use Rattle.rules.specs.Owning.{Owning, part, shown, held_part, poll, own_view}
+use Rattle.rules.specs.Owning.{holds, Owning, part, shown, held_part, poll, own_view}
 use Rattle.laws.specs.OwnIs.{OwnGood}
 use Rattle.laws.specs.OwnViews.{InBuffer, held_viewed}
 use Rattle.laws.proofs.OwnViews.{view_inside}
@@ -22,7 +21,7 @@ pub poll_viewed
 poll_viewed o m s g from count e t l =
     let k : Keeps o s (poll o m s) = poll_keeps o m s g in
     let v : InBuffer o s (poll o m s) from count = view_inside o m s from count e in
-    let h : (poll o m s).owning.held ≡ Holds v.token count = v.held in
+    let h : (poll o m s).owning.held ≡ holds v.token count = v.held in
     let f : v.token * o.size ≡ from = sym v.starts in
     let z : (poll o m s).owning.queue.n * (poll o m s).owning.size ≡ o.queue.n * o.size = ap₂ (λ a b. a * b) k.n k.size in
     let r : o.queue.n * o.size ≤ length s = v.room in

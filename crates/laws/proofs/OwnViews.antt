@@ -4,11 +4,10 @@ use Rattle.std.proofs.Math.Path.{refl}
 use Rattle.std.proofs.Common.{sym, ap, ◌∙◌, arith, length-take, length-drop, get_or-take, get_or-drop}
 use borrow.Author.Tests.{leb-true, ltb-true, eqb-true}
 use Rattle.virtio.specs.Memory.{Memory, used_idx, used_id, spot, load_at}
-use Rattle.rules.specs.declared.Held.TheVariants.{Holds}
 use Rattle.rules.specs.Answer.{Outcome}
 use Rattle.rules.specs.Step.{token_of}
 use Rattle.rules.specs.Calls.{pop_used}
-use Rattle.rules.specs.Owning.{Owning, no_view, part, shown, Owned, own_list}
+use Rattle.rules.specs.Owning.{holds, Owning, no_view, part, shown, Owned, own_list}
 use Rattle.rules.specs.Owning.{poll_refusal, showing}
 use Rattle.rules.specs.Owning.{poll_popped, poll_token, poll_ready, poll}
 use Rattle.laws.specs.OwnIs.{slot_ends}
@@ -37,7 +36,7 @@ module _ (o : Owning) (m : Memory) (s : List ℕ) where
         inside = omega arith;
         answer = refl;
         value = refl;
-        held = ap (Holds t) y;
+        held = ap (holds t) y;
         store = refl;
       }
 

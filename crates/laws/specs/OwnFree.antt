@@ -1,14 +1,13 @@
 -- What a well-formed owning record says of the descriptors: each buffer that is out is a chain of one; with nothing held no descriptor is free,
 -- and with a token held just that one is.
 use Rattle.std.proofs.Math.Path.{◌≡◌, sym, ap}
-use Rattle.std.specs.Prelude.{refl, ◌⊎◌, true, false, cond, length}
+use Rattle.std.specs.Prelude.{None, refl, ◌⊎◌, true, false, cond, length}
 use Rattle.std.proofs.Common.{ap₂, subst, ◌∙◌, inl, inr, arith}
 use mathlib.Core.List.{List, [], ◌∷◌}
 use Prim.Native.Nat.{ℕ, zero, suc, ◌≤◌, ◌<◌}
 use Rattle.lists.specs.Tests.{by_test, by_eq}
 use Rattle.lists.specs.Once.{Below, count, count_same, count_other}
 use Rattle.lists.specs.Walk.{hop, walk, walk_below}
-use Rattle.rules.specs.declared.Held.TheVariants.{Nothing}
 use Rattle.rules.specs.Record.{Queue, next_of, noted_of, free_count, free_list, is_indirect, entries_of, size_of, buffers_of}
 use Rattle.rules.specs.Meaning.{WellFormed, Out}
 use Rattle.rules.specs.Owning.{Owning}
@@ -83,7 +82,7 @@ module _ (o : Owning) (w : OwnWell o) where
   away_plain h a = plain_head q w.queue h a.out (ap length a.list)
 
   -- with nothing held no descriptor is free
-  pub none_free : o.held ≡ Nothing → free_list q ≡ []
+  pub none_free : o.held ≡ None → free_list q ≡ []
   none_free e = none_in q.n (free_list q) free_below (λ h b. out_not_free q w.queue h (all_away o w e h b).out)
 
   -- a descriptor that is in hand is in no chain, since each chain is its head alone

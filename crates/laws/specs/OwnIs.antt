@@ -1,5 +1,5 @@
 -- A well-formed owning record in plain words, both ways: each token's buffer is out, alone and whole, or in the caller's hand.
-use Rattle.std.specs.Prelude.{◌≡◌, ◌⊎◌, Bool, ◌&&◌, ◌||◌, List, [], ◌∷◌, ℕ, suc, ◌+◌, ◌*◌, ◌≤◌, ◌<◌, ltb, leb}
+use Rattle.std.specs.Prelude.{Option, None, Some, ◌≡◌, ◌⊎◌, Bool, ◌&&◌, ◌||◌, List, [], ◌∷◌, ℕ, suc, ◌+◌, ◌*◌, ◌≤◌, ◌<◌, ltb, leb}
 use Rattle.std.proofs.Math.Path.{refl, ap}
 use Rattle.std.proofs.Common.{sym, ap₂, ◌∙◌, inl, inr, true≢false, arith, suc-mul, mul-le-mul_right}
 use Rattle.std.proofs.Math.Bool.{true, false, not, cond}
@@ -13,12 +13,11 @@ use Rattle.lists.specs.Tests.{by_test, by_eq, and_left, and_right, and_both, imp
 use Rattle.virtio.specs.declared.Buffer.{Buffer}
 use Rattle.rules.specs.declared.Open.TheVariants.{Idle}
 use Rattle.rules.specs.declared.Held.{Held}
-use Rattle.rules.specs.declared.Held.TheVariants.{Nothing, Holds}
 use Rattle.rules.specs.Record.{Queue, outstanding, buffers_of, is_open}
 use Rattle.rules.specs.WellFormed.{base_ok, broken, well_formed}
 use Rattle.rules.specs.Meaning.{WellFormed, Out, Based}
 use Rattle.rules.specs.Calls.{same_list}
-use Rattle.rules.specs.Owning.{Owning, own_buffer, own_list, size_allowed, own_clause, held_clause, placed_clause, own_tests, own_broken, own_well_formed}
+use Rattle.rules.specs.Owning.{holds, Owning, own_buffer, own_list, size_allowed, own_clause, held_clause, placed_clause, own_tests, own_broken, own_well_formed}
 use Rattle.laws.specs.WellFormedIs.{well_formed_means, means_well_formed, based_means, means_based, out_means, means_out}
 use Rattle.laws.specs.CallKeeps.{Good, none_open}
 
@@ -74,7 +73,7 @@ pub record Away (o : Owning) (h : ℕ) : Type 0 where
 pub record InHand (o : Owning) (h : ℕ) : Type 0 where
   pub below : h < o.queue.n
   pub len : ℕ
-  pub held : o.held ≡ Holds h len
+  pub held : o.held ≡ holds h len
   pub within : len ≤ o.size
   pub not_out : Out o.queue h → ⊥
 
@@ -88,17 +87,34 @@ pub record OwnWell (o : Owning) : Type 0 where
   pub most : o.size ≤ 1024
   -- each token's buffer is out or in hand, and what is said to be held is in hand
   pub tokens : (h : ℕ) → h < o.queue.n → Away o h ⊎ InHand o h
-  pub holding : (t l : ℕ) → o.held ≡ Holds t l → InHand o t
+  pub holding : (t l : ℕ) → o.held ≡ holds t l → InHand o t
+
+-- what is held tells its token and its length
+token_in : Option Held → ℕ
+token_in None = 0
+token_in (Some h) = h.token
+
+len_in : Option Held → ℕ
+len_in None = 0
+len_in (Some h) = h.len
+
+pub same_token : (t l u k : ℕ) → holds t l ≡ holds u k → t ≡ u
+unfolding token_in
+same_token t l u k e = ap token_in e
+
+pub same_len : (t l u k : ℕ) → holds t l ≡ holds u k → l ≡ k
+unfolding len_in
+same_len t l u k e = ap len_in e
 
 -- never both; and at most one is in hand
 pub never_both : (o : Owning) (h : ℕ) → Away o h → InHand o h → ⊥
 never_both o h a i = i.not_out a.out
 
 pub one_held : (o : Owning) (h k : ℕ) → InHand o h → InHand o k → h ≡ k
-one_held o h k x y = let p = x.held in let q = y.held in cc
+one_held o h k x y = same_token h x.len k y.len (sym x.held ∙ y.held)
 
 -- a record that holds nothing holds no token
-pub none_held : (o : Owning) → o.held ≡ Nothing → (h : ℕ) → InHand o h → ⊥
+pub none_held : (o : Owning) → o.held ≡ None → (h : ℕ) → InHand o h → ⊥
 none_held o e h x = let p = x.held in let z : ◌≡◌ {A = ℕ} 0 1 = cc in omega arith
 
 -- ---- the test says so
@@ -133,7 +149,7 @@ module _ (o : Owning) where
       go true f z = absurd (d (eqb-true h t f))
       go false f z = out_means q h z
 
-  holds_means : (t l : ℕ) → held_clause o (Holds t l) ≡ true → HoldsIs t l
+  holds_means : (t l : ℕ) → held_clause o (holds t l) ≡ true → HoldsIs t l
   holds_means t l e =
       let p : ℕ → Bool = λ h. eqb h t || outstanding q h in
       let c : Bool = every p q.n 0 && leb l o.size in
@@ -158,17 +174,19 @@ module _ (o : Owning) where
   away_if : own_clause o ≡ true → (h : ℕ) → Out q h → Away o h
   away_if e h p = record { out = p; list = own_list_lem e h p }
 
-  hand_if : (t l : ℕ) → o.held ≡ Holds t l → HoldsIs t l → InHand o t
+  hand_if : (t l : ℕ) → o.held ≡ holds t l → HoldsIs t l → InHand o t
   hand_if t l e p =
       record { below = p.below; len = l; held = e; within = p.within; not_out = p.not_out }
 
-  each_if : own_clause o ≡ true → (x : Held) → o.held ≡ x → held_clause o x ≡ true → (h : ℕ) → h < q.n → Away o h ⊎ InHand o h
-  each_if e Nothing f c h b =
+  each_if : own_clause o ≡ true → (x : Option Held) → o.held ≡ x → held_clause o x ≡ true → (h : ℕ) → h < q.n → Away o h ⊎ InHand o h
+  each_if e None f c h b =
       inl (away_if e h (out_means q h (every_true (outstanding q) q.n 0 c h (omega arith) (omega arith))))
-  each_if e (Holds t l) f c h b =
+  each_if e (Some x) f c h b =
+      let t : ℕ = x.token in
+      let l : ℕ = x.len in
       let p : HoldsIs t l = holds_means t l c in
       by_eq h t
-      (λ s. inr (hand_if h l (f ∙ ap (λ k. Holds k l) (sym s)) (holds_means h l (ap (λ k. held_clause o (Holds k l)) s ∙ c))))
+      (λ s. inr (hand_if h l (f ∙ ap (λ k. holds k l) (sym s)) (holds_means h l (ap (λ k. held_clause o (holds k l)) s ∙ c))))
       (λ d. inl (away_if e h (p.others h b d)))
 
   -- THE LAW: a record that passes the test is well formed in plain words
@@ -200,7 +218,7 @@ module _ (o : Owning) where
         from (inl a) = a
         from (inr y) = absurd (d (one_held o h t y x))
 
-    pub all_away : o.held ≡ Nothing → (h : ℕ) → h < q.n → Away o h
+    pub all_away : o.held ≡ None → (h : ℕ) → h < q.n → Away o h
     all_away e h b = from (w.tokens h b)
       where
         from : Away o h ⊎ InHand o h → Away o h
@@ -229,12 +247,14 @@ module _ (o : Owning) where
         (λ e. ap (λ c. c || outstanding q h) e)
         (λ e. ap (λ c. c || outstanding q h) e ∙ means_out q h (other_away t x h b (eqb-false h t e)).out)
 
-    held_if : (x : Held) → o.held ≡ x → held_clause o x ≡ true
-    held_if Nothing e =
+    held_if : (x : Option Held) → o.held ≡ x → held_clause o x ≡ true
+    held_if None e =
         true_every (outstanding q) q.n 0 (λ h l u. means_out q h (all_away e h (omega arith)).out)
-    held_if (Holds t l) e =
+    held_if (Some h) e =
+        let t : ℕ = h.token in
+        let l : ℕ = h.len in
         let x : InHand o t = w.holding t l e in
-        let y : o.held ≡ Holds t x.len = x.held in
+        let y : o.held ≡ holds t x.len = x.held in
         let s : l ≡ x.len = cc in
         let v : x.len ≤ o.size = x.within in
         let p : ℕ → Bool = λ h. eqb h t || outstanding q h in

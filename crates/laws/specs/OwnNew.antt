@@ -1,6 +1,6 @@
 -- Owning new: one that is refused gives an owning record that is all zero but its queue, and alters nothing; one that is not makes a good record,
 -- with the buffer of every token out and nothing held.
-use Rattle.std.specs.Prelude.{◌≡◌, refl, Bool, true, ◌&&◌, List, [], ◌∷◌, leb, eqb, length, replicate}
+use Rattle.std.specs.Prelude.{None, ◌≡◌, refl, Bool, true, ◌&&◌, List, [], ◌∷◌, leb, eqb, length, replicate}
 use Rattle.std.proofs.Common.{sym, ap₂, subst, ◌∙◌, inl, arith, ne_eqb, eq-eqb, leb-true, eqb-true}
 use Rattle.std.proofs.Math.Path.{ap}
 use Rattle.std.proofs.Math.Bool.{cond}
@@ -13,7 +13,6 @@ use Rattle.lists.specs.Tests.{by_eq, and_left, and_right}
 use Rattle.virtio.specs.declared.Buffer.{Buffer}
 use Rattle.virtio.specs.Memory.{Memory}
 use Rattle.rules.specs.declared.Open.TheVariants.{Idle}
-use Rattle.rules.specs.declared.Held.TheVariants.{Nothing}
 use Rattle.rules.specs.Record.{Queue, next_of, free_count, free_list, buffers_of}
 use Rattle.rules.specs.WellFormed.{base_ok}
 use Rattle.rules.specs.Meaning.{Out, Based}
@@ -108,7 +107,7 @@ pub record OwnMade (q : Queue) (base size : ℕ) (s : List ℕ) (r : Owned) : Ty
   pub n : r.owning.queue.n ≡ q.n
   pub base_is : r.owning.base ≡ base
   pub size_is : r.owning.size ≡ size
-  pub held : r.owning.held ≡ Nothing
+  pub held : r.owning.held ≡ None
   pub good : OwnGood r.owning
   pub away : (h : ℕ) → h < q.n → Away r.owning h
   pub store : r.store ≡ sets s 0 (replicate (q.n * size) 0)
@@ -125,7 +124,7 @@ module _ (q : Queue) (base size : ℕ) (m : Memory) (s : List ℕ) where
     answer = own_new_refusal q base size m s;
     value = 0;
     view = no_view;
-    owning = record { queue = q; base = 0; size = 0; held = Nothing };
+    owning = record { queue = q; base = 0; size = 0; held = None };
     memory = m;
     store = s;
   }

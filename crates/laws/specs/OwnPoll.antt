@@ -1,6 +1,6 @@
 -- Poll and release, exactly: each refusal, nothing ready, number 4, a buffer shown; and what number 10 and a buffer given back leave in record and memory,
 -- which proofs/ shows.
-use Rattle.std.specs.Prelude.{◌≡◌, refl, true, false, not, List, [], ◌∷◌, ℕ, ◌+◌, ◌*◌, ◌≤◌, ◌<◌, ltb, leb, eqb}
+use Rattle.std.specs.Prelude.{None, ◌≡◌, refl, true, false, not, List, [], ◌∷◌, ℕ, ◌+◌, ◌*◌, ◌≤◌, ◌<◌, ltb, leb, eqb}
 use Rattle.std.proofs.Common.{sym, ap₂, subst, ◌∙◌, inl, inr, arith, lt-ltb, le-ltb, le-leb, eq-eqb, ne_eqb}
 use Rattle.std.proofs.Math.Path.{ap}
 use Rattle.std.proofs.Math.Bool.{cond}
@@ -9,13 +9,12 @@ use Rattle.lists.specs.PickLaws.{none_first}
 use Rattle.lists.specs.Tests.{by_eq, and_both}
 use Rattle.virtio.specs.Memory.{Memory}
 use Rattle.rules.specs.declared.Open.TheVariants.{Idle, PopIdx}
-use Rattle.rules.specs.declared.Held.TheVariants.{Nothing, Holds}
 use Rattle.rules.specs.Record.{Queue, noted_of, outstanding, buffers_of, is_open, is_add, with_call}
 use Rattle.rules.specs.WellFormed.{store_steps}
 use Rattle.rules.specs.Answer.{Outcome, WrongToken, NotOutstanding, Mismatch, OverLength, Busy, BadRecord, BadRegion}
 use Rattle.rules.specs.Step.{token_of, freed, stored_count}
 use Rattle.rules.specs.Calls.{fits, call_tests, call_refusal, same_list, matches, opened, pop_used, add}
-use Rattle.rules.specs.Owning.{Owning, Owned, part, no_view, own_buffer, own_list, holds_none, own_well_formed, own_fits, poll_refusal, release_refusal}
+use Rattle.rules.specs.Owning.{holds, Owning, Owned, part, no_view, own_buffer, own_list, holds_none, own_well_formed, own_fits, poll_refusal, release_refusal}
 use Rattle.rules.specs.Owning.{plainly, own_refused, poll_popped, poll_token, poll_ready, poll, released, release}
 use Rattle.laws.specs.WellFormedIs.{means_well_formed, means_out}
 use Rattle.laws.specs.PopKeeps.{freed_others, freed_token}
@@ -23,7 +22,7 @@ use Rattle.laws.specs.CallKeeps.{Good, pop_keeps}
 use Rattle.laws.specs.Regions.{moves_fit}
 use Rattle.laws.specs.Whole.{pop_is}
 use Rattle.laws.specs.Popped.{pop_stored, used_idx_of, used_id_of, used_len_of, pop_verdict, pop_freed, pop_passes}
-use Rattle.laws.specs.OwnIs.{Away, InHand, OwnWell, OwnGood, own_means, means_own, means_list, all_away}
+use Rattle.laws.specs.OwnIs.{Away, InHand, OwnWell, OwnGood, own_means, means_own, means_list, all_away, same_token, same_len}
 use Rattle.laws.specs.OwnFree.{away_one, away_plain}
 use Rattle.laws.specs.OwnAdds.{one_added, one_published}
 use Rattle.laws.specs.OwnViews.{poll_allowed}
@@ -104,7 +103,7 @@ module _ (o : Owning) (m : Memory) (s : List ℕ) where
     answer = 0;
     value = poll_named o m;
     view = part (poll_named o m * o.size) (poll_len o m);
-    owning = record { queue = taken_out o m; base = o.base; size = o.size; held = Holds (poll_named o m) (poll_len o m) };
+    owning = record { queue = taken_out o m; base = o.base; size = o.size; held = holds (poll_named o m) (poll_len o m) };
     memory = taken_memory o m;
     store = s;
   }
@@ -115,7 +114,7 @@ module _ (o : Owning) (m : Memory) (s : List ℕ) where
     answer = OverLength;
     value = 0;
     view = no_view;
-    owning = record { queue = given_back o (poll_named o m) (taken_out o m); base = o.base; size = o.size; held = Nothing };
+    owning = record { queue = given_back o (poll_named o m) (taken_out o m); base = o.base; size = o.size; held = None };
     memory = republished o (poll_named o m) (taken_out o m) (taken_memory o m);
     store = s;
   }
@@ -211,15 +210,15 @@ module _ (o : Owning) (m : Memory) (s : List ℕ) (e : poll_refusal o m s ≡ 0)
       -- the record in which it is held
       module _ (l : ℕ) (v : l ≤ o.size) where
         abbrev p : Owning
-        p = record { queue = taken_out o m; base = o.base; size = o.size; held = Holds t l }
+        p = record { queue = taken_out o m; base = o.base; size = o.size; held = holds t l }
 
         not_adding : is_add q.call ≡ false
         not_adding = ap is_add w.idle
 
-        pub in_hand : (h k : ℕ) → h < q.n → p.held ≡ Holds h k → InHand p h
+        pub in_hand : (h k : ℕ) → h < q.n → p.held ≡ holds h k → InHand p h
         in_hand h k c f =
-            let x : h ≡ t = cc in
-            let y : l ≡ k = cc in
+            let x : h ≡ t = same_token h k t l (sym f) in
+            let y : l ≡ k = same_len t l h k f in
             record {
               below = c;
               len = k;
@@ -242,8 +241,8 @@ module _ (o : Owning) (m : Memory) (s : List ℕ) (e : poll_refusal o m s ≡ 0)
           based = w.based;
           some = w.some;
           most = w.most;
-          tokens = λ h c. by_eq h t (λ x. inr (in_hand h l c (ap (λ k. Holds k l) (sym x)))) (λ n. inl (still_away h c n));
-          holding = λ h k f. in_hand h k (let x : h ≡ t = cc in let y : t < q.n = b in omega arith) f;
+          tokens = λ h c. by_eq h t (λ x. inr (in_hand h l c (ap (λ k. holds k l) (sym x)))) (λ n. inl (still_away h c n));
+          holding = λ h k f. in_hand h k (let x : h ≡ t = same_token h k t l (sym f) in let y : t < q.n = b in omega arith) f;
         }
 
         pub held_good : OwnGood p
@@ -253,7 +252,7 @@ module _ (o : Owning) (m : Memory) (s : List ℕ) (e : poll_refusal o m s ≡ 0)
       abbrev pub over : Owned
       over =
           let again : Outcome = add (taken_out o m) (taken_memory o m) (own_list o t) in
-          plainly o OverLength 0 again.queue Nothing again.memory s
+          plainly o OverLength 0 again.queue None again.memory s
 
       -- THE LAWS: with a length within the size the buffer is popped and held, and its first bytes are shown, as many as the device reported
       pub poll_shows : poll_len o m ≤ o.size → poll o m s ≡ poll_shown o m s

@@ -1,6 +1,6 @@
 -- What is shown: what it is that the view of a poll lies inside its own token's buffer, which proofs/ shows; no other call has a view; and what is viewed
 -- of any record and store are bytes of the held buffer, or none.
-use Rattle.std.specs.Prelude.{◌≡◌, ◌⊎◌, Bool, true, false, cond, ◌&&◌, List, [], ℕ, ◌+◌, ◌*◌, ◌≤◌, ◌<◌, eqb, length, take, drop}
+use Rattle.std.specs.Prelude.{Option, None, Some, ◌≡◌, ◌⊎◌, Bool, true, false, cond, ◌&&◌, List, [], ℕ, ◌+◌, ◌*◌, ◌≤◌, ◌<◌, eqb, length, take, drop}
 use Rattle.std.proofs.Math.Path.{refl}
 use Rattle.std.proofs.Common.{ap, ◌∙◌, inl, inr, arith}
 use borrow.Author.Tests.{le-leb, leb-true, not-false}
@@ -8,10 +8,9 @@ use Rattle.lists.specs.PickLaws.{first_none}
 use Rattle.lists.specs.Tests.{by_test, and_left, and_right, and_both}
 use Rattle.virtio.specs.Memory.{Memory}
 use Rattle.rules.specs.declared.Held.{Held}
-use Rattle.rules.specs.declared.Held.TheVariants.{Nothing, Holds}
 use Rattle.rules.specs.Record.{Queue}
 use Rattle.rules.specs.Calls.{fits}
-use Rattle.rules.specs.Owning.{Owning, no_view, shown, Owned, holds_none, own_well_formed, own_new_refusal, own_new}
+use Rattle.rules.specs.Owning.{holds, Owning, no_view, shown, Owned, holds_none, own_well_formed, own_new_refusal, own_new}
 use Rattle.rules.specs.Owning.{store_fits, own_fits, poll_tests, poll_refusal, release_tests, release_refusal}
 use Rattle.rules.specs.Owning.{released, release, own_should_notify, own_set_dev_notify, held_part, own_view}
 use Rattle.laws.specs.OwnIs.{InHand, own_means, slot_ends}
@@ -22,7 +21,7 @@ pub record PollAllowed (o : Owning) (m : Memory) (s : List ℕ) : Type 0 where
   pub well : own_well_formed o ≡ true
   pub fit : fits o.queue m ≡ true
   pub room : o.queue.n * o.size ≤ length s
-  pub none : o.held ≡ Nothing
+  pub none : o.held ≡ None
 
 pub record ReleaseAllowed (o : Owning) (m : Memory) (s : List ℕ) : Type 0 where
   pub well : own_well_formed o ≡ true
@@ -30,9 +29,9 @@ pub record ReleaseAllowed (o : Owning) (m : Memory) (s : List ℕ) : Type 0 wher
   pub room : o.queue.n * o.size ≤ length s
   pub some : holds_none o.held ≡ false
 
-nothing_held : (x : Held) → holds_none x ≡ true → x ≡ Nothing
-nothing_held Nothing e = refl
-nothing_held (Holds t l) e = absurd (let z : ◌≡◌ {A = ℕ} 0 1 = ap (λ b. cond b 1 0) e in omega arith)
+nothing_held : (x : Option Held) → holds_none x ≡ true → x ≡ None
+nothing_held None e = refl
+nothing_held (Some h) e = absurd (let z : ◌≡◌ {A = ℕ} 0 1 = ap (λ b. cond b 1 0) e in omega arith)
 
 module _ (o : Owning) (m : Memory) (s : List ℕ) where
   fit_of : own_fits o m s ≡ true → fits o.queue m ≡ true
@@ -84,7 +83,7 @@ pub record InBuffer (o : Owning) (s : List ℕ) (r : Owned) (from count : ℕ) :
   pub inside : from + count ≤ length s
   pub answer : r.answer ≡ 0
   pub value : r.value ≡ token
-  pub held : r.owning.held ≡ Holds token count
+  pub held : r.owning.held ≡ holds token count
   pub store : r.store ≡ s
 
 -- ---- no call but poll has a view
@@ -97,9 +96,9 @@ blind false x y f g = g
 module _ (o : Owning) (m : Memory) (s : List ℕ) where
   -- THE LAWS
 
-  released_blind : (x : Held) → (released o x m s).view ≡ no_view
-  released_blind Nothing = refl
-  released_blind (Holds t l) = refl
+  released_blind : (x : Option Held) → (released o x m s).view ≡ no_view
+  released_blind None = refl
+  released_blind (Some h) = refl
 
   pub release_no_view : (release o m s).view ≡ no_view
   unfolding release
@@ -123,7 +122,7 @@ new_no_view q base size m s = blind (eqb (own_new_refusal q base size m s) 0) _ 
 pub record Views (o : Owning) (s : List ℕ) : Type 0 where
   pub token : ℕ
   pub len : ℕ
-  pub held : o.held ≡ Holds token len
+  pub held : o.held ≡ holds token len
   pub below : token < o.queue.n
   pub most : len ≤ o.size
   pub buffer : token * o.size + o.size ≤ length s
@@ -142,13 +141,15 @@ module _ (o : Owning) (s : List ℕ) where
   unfolding own_view
   held_viewed e l = rw (e, le-leb (o.queue.n * o.size) (length s) l)
 
-  viewed_held : own_well_formed o ≡ true → o.queue.n * o.size ≤ length s → (x : Held) → o.held ≡ x → (own_view o s ≡ []) ⊎ Views o s
-  viewed_held e l Nothing h = inl (held_viewed e l ∙ ap (λ x. shown (held_part x o.size) s) h)
-  viewed_held e l (Holds t k) h =
+  viewed_held : own_well_formed o ≡ true → o.queue.n * o.size ≤ length s → (x : Option Held) → o.held ≡ x → (own_view o s ≡ []) ⊎ Views o s
+  viewed_held e l None h = inl (held_viewed e l ∙ ap (λ x. shown (held_part x o.size) s) h)
+  viewed_held e l (Some x) h =
+      let t : ℕ = x.token in
+      let k : ℕ = x.len in
       let i : InHand o t = (own_means o e).holding t k h in
       let b : t < o.queue.n = i.below in
       let w : i.len ≤ o.size = i.within in
-      let f : o.held ≡ Holds t i.len = i.held in
+      let f : o.held ≡ holds t i.len = i.held in
       let j : k ≡ i.len = cc in
       let u : t * o.size + o.size ≤ o.queue.n * o.size = slot_ends o.size t o.queue.n b in
       inr (record {

@@ -9,21 +9,21 @@ ghost use Rattle.layout.specs.Parts.{used_ring_of};
 pub fn table_size(n: u16) -> usize
     ensures { result ≡ table_size n }
 {
-    16 * (n as usize)
+    16 * usize::from(n)
 }
 
 // The bytes of the available ring.
 pub fn avail_size(n: u16) -> usize
     ensures { result ≡ avail_size n }
 {
-    6 + 2 * (n as usize)
+    6 + 2 * usize::from(n)
 }
 
 // The bytes of the used ring.
 pub fn used_size(n: u16) -> usize
     ensures { result ≡ used_size n }
 {
-    6 + 8 * (n as usize)
+    6 + 8 * usize::from(n)
 }
 
 // x rounded up to a page.
@@ -31,7 +31,7 @@ pub fn page_up(x: usize) -> usize
     requires { x ≤ 2 ^ 32 }
     ensures { result ≡ page_up x }
 {
-    (x + 4095) / 4096 * 4096
+    x.next_multiple_of(4096)
 }
 
 // Where the available ring starts in region one: right behind the table.
@@ -74,7 +74,7 @@ pub fn need_two(legacy: bool, n: u16) -> usize
 pub fn need_pool(n: u16) -> usize
     ensures { result ≡ need_pool n }
 {
-    let wide = n as usize;
+    let wide = usize::from(n);
     16 * (wide * wide)
 }
 

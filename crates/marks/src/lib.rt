@@ -11,9 +11,7 @@ fn mask(o: usize, c: usize) -> u64
     requires { (0 < c) × (o + c ≤ 64) }
     ensures { result ≡ ones c o }
 {
-    let first: u64 = 1 << o;
-    let last: u64 = 1 << (o + (c - 1));
-    (last - first) + last
+    (u64::MAX >> (64 - c)) << o
 }
 
 // Marks the c numbers from d on, which share a word, and answers whether none was marked before.
@@ -37,12 +35,5 @@ pub fn mark(seen: &mut [u64], i: usize) -> bool
     requires { Marks (i + 1) seen }
     ensures { (result ≡ not (get_or (marks_in seen.entry) i false)) × (marks_in seen.exit ≡ set (marks_in seen.entry) i true) }
 {
-    let bit: u64 = 1 << (i % 64);
-    let at = i / 64;
-    let word = seen[at];
-    if word & bit == 0 {
-        seen[at] = word | bit;
-        return true;
-    }
-    false
+    mark_run(seen, i, 1)
 }

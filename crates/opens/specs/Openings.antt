@@ -13,8 +13,7 @@ use Rattle.views.specs.declared.Core.{Core}
 use Rattle.views.specs.Tables.{tables_of, queue_of}
 use Rattle.tables.specs.Stores.{with_desc, with_noted}
 use Rattle.tables.specs.Ready.{Ready, small}
-use Rattle.opens.specs.Given.{given, next_in, with_filled, with_copied, added_core}
-use Rattle.opens.specs.Turns.{given_length}
+use Rattle.opens.specs.Given.{next_in, with_filled, with_copied, added_core}
 
 -- m entries of slot h lie in the room for lists
 pub slot_in : (n h m r : ℕ) → h < n → m ≤ n → n ≤ r → n * h + m ≤ r * r
@@ -34,13 +33,12 @@ pub record Opening (c : Core) (r k : ℕ) : Type 0 where
   pub low : c.n * c.free_head ≤ 4096
   pub pool : c.modes.indirect ≡ true → c.base + 16 * (c.n * c.free_head) < 2 ^ 64
 
-pub opening : (c : Core) (r : ℕ) (words lens halves : List ℕ) (sides : List Bool) (addrs sizes outs : List ℕ) → Ready c r words lens halves sides
-    → Addable (queue_of c (tables_of r words lens halves sides)) (given addrs sizes outs) → Opening c r (length addrs)
-opening c r words lens halves sides addrs sizes outs s a =
+pub opening : (c : Core) (r : ℕ) (words lens halves : List ℕ) (sides : List Bool) (bs : List Buffer) → Ready c r words lens halves sides
+    → Addable (queue_of c (tables_of r words lens halves sides)) bs → Opening c r (length bs)
+opening c r words lens halves sides bs s a =
     let w : WellFormed (queue_of c (tables_of r words lens halves sides)) = s.good.well in
     let n : (0 < c.n) × (c.n ≤ 64) = small c r words lens halves sides s in
-    let e : length (given addrs sizes outs) ≡ length addrs = given_length addrs sizes outs in
-    let m : length (given addrs sizes outs) ≤ c.n = a.most in
+    let m : length bs ≤ c.n = a.most in
     let h : c.free_head < c.n = w.free in
     let i : c.n * c.free_head + c.n ≤ c.n * c.n = slot_in c.n c.free_head c.n c.n h (omega arith) (omega arith) in
     let low : c.n * c.free_head + 0 ≤ 64 * 64 = slot_in c.n c.free_head 0 64 h (omega arith) n.1 in
@@ -49,7 +47,7 @@ opening c r words lens halves sides addrs sizes outs s a =
       small = n.1;
       used = a.room;
       most = omega arith;
-      slot = slot_in c.n c.free_head (length addrs) r h (omega arith) s.within;
+      slot = slot_in c.n c.free_head (length bs) r h (omega arith) s.within;
       low = omega arith;
       pool = λ t. (let b : c.base + need_pool c.n ≤ 2 ^ 64 = (w.pool t).within in omega arith);
     }

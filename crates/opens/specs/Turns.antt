@@ -1,5 +1,6 @@
 -- The caller's list one buffer at a time; and its tests, by what its first buffer is.
-use Rattle.std.specs.Prelude.{◌≡◌, true, false, List, [], ◌∷◌, ℕ, suc, ◌+◌, ◌≤◌, ◌<◌, length, get_or, drop}
+use Rattle.std.specs.List.{list_all}
+use Rattle.std.specs.Prelude.{◌≡◌, refl, Bool, cond, not, ◌&&◌, eqb, true, false, List, [], ◌∷◌, ℕ, suc, ◌+◌, ◌≤◌, ◌<◌, length, get_or, drop}
 use Rattle.std.proofs.Math.Path.{sym, ap}
 use Rattle.std.proofs.Common.{◌∙◌, arith, eq-eqb, ne_eqb, drop_of_length-le, drop-cons}
 use Rattle.std.proofs.Math.ListN.{length-map}
@@ -35,6 +36,25 @@ module _ (addrs lens sides : List ℕ) where
       let n : length (given addrs lens sides) ≡ length addrs = given_length in
       drop_of_length-le (given addrs lens sides) {i = i} (omega arith)
 
+-- any list from i on: buffer i and then the others, or none
+pub list_rest : (bs : List Buffer) (i : ℕ) (b : Buffer) → i < length bs → b ≡ get_or bs i no_buffer → drop i bs ≡ b ∷ drop (i + 1) bs
+list_rest bs i b l e =
+    drop-cons bs i no_buffer l
+    ∙ ap (λ (x : Buffer). x ∷ drop (suc i) bs) (sym e)
+    ∙ ap (λ j. b ∷ drop j bs) {x = suc i} (omega arith)
+
+pub list_over : (bs : List Buffer) (i : ℕ) → length bs ≤ i → drop i bs ≡ []
+list_over bs i l = drop_of_length-le bs {i = i} l
+
+-- whether a buffer has some length; and a list all of whose buffers have
+abbrev pub filled_length : Buffer → Bool
+filled_length b = not (eqb b.len 0)
+
+pub none_empty_all : (bs : List Buffer) → list_all filled_length bs ≡ no_empty bs
+unfolding no_empty
+none_empty_all [] = refl
+none_empty_all (b ∷ bs) = ap (λ t. filled_length b && t) (none_empty_all bs)
+
 -- ---- a list that begins with b
 
 module _ (bs rest : List Buffer) (b : Buffer) (e : bs ≡ b ∷ rest) where
@@ -61,6 +81,13 @@ module _ (bs rest : List Buffer) (b : Buffer) (e : bs ≡ b ∷ rest) where
   pub order_rest_lem : b.output ≡ true → in_order bs ≡ all_outputs rest
   unfolding in_order
   order_rest_lem z = ap in_order e ∙ rw z
+
+-- what is asked of a list behind its first buffer, where an output may have come before it
+pub order_turn : (written : Bool) (bs rest : List Buffer) (b : Buffer) → bs ≡ b ∷ rest → (written ≡ true → b.output ≡ true)
+    → cond written (all_outputs bs) (in_order bs) ≡ cond b.output (all_outputs rest) (in_order rest)
+unfolding in_order
+order_turn true bs rest b e h = outputs_next bs rest b e (h refl) ∙ rw (h refl) refl
+order_turn false bs rest b e h = ap in_order e
 
 -- ---- and one that has no buffer
 

@@ -1,14 +1,13 @@
 -- The owning queue's calls case by case, by what the code's parts answer.
-use Rattle.std.specs.Prelude.{◌≡◌, Bool, List, [], ℕ, ◌*◌, ◌≤◌, ◌<◌, eqb, length}
+use Rattle.std.specs.Prelude.{◌≡◌, None, Bool, List, [], ℕ, ◌*◌, ◌≤◌, ◌<◌, eqb, length}
 use Rattle.std.proofs.Math.Path.{sym, ap}
 use Rattle.std.proofs.Common.{◌∙◌, arith}
 use borrow.Author.Tests.{eq-eqb, ne_eqb, lt-ltb, le-ltb, le-leb, lt-leb, eqb-true, eqb-false}
 use Rattle.lists.specs.Tests.{by_test}
 use Rattle.virtio.specs.Memory.{Memory}
-use Rattle.rules.specs.declared.Held.TheVariants.{Nothing, Holds}
 use Rattle.rules.specs.Answer.{Outcome, WrongToken, OverLength, BadRecord}
 use Rattle.rules.specs.Calls.{call_refusal, add, pop_used, peek_used, should_notify, set_dev_notify}
-use Rattle.rules.specs.Owning.{Owning, own_list, own_broken, own_well_formed, poll_refusal, release_refusal, plainly, own_refused, showing, poll_popped, poll_token, poll_ready, poll, released, release, passed, own_should_notify, own_set_dev_notify, own_view}
+use Rattle.rules.specs.Owning.{Owning, holds, own_list, own_broken, own_well_formed, poll_refusal, release_refusal, plainly, own_refused, showing, poll_popped, poll_token, poll_ready, poll, released, release, passed, own_should_notify, own_set_dev_notify, own_view}
 use Rattle.owns.specs.Refused.{own_well}
 use Rattle.laws.specs.Popped.{used_idx_of, unaltered, peek_not_ready, peek_answers}
 
@@ -24,9 +23,9 @@ module _ (o : Owning) (m : Memory) (s : List ℕ) where
       pop_shows l = sym (rw (eq-eqb p.answer 0 z, le-leb p.value o.size l))
 
       pub pop_again : (a : Outcome) → o.size < p.value → a ≡ add p.queue p.memory (own_list o t)
-          → plainly o OverLength 0 a.queue Nothing a.memory s ≡ poll_popped o p t s
+          → plainly o OverLength 0 a.queue None a.memory s ≡ poll_popped o p t s
       pop_again a l e =
-          ap (λ (x : Outcome). plainly o OverLength 0 x.queue Nothing x.memory s) e
+          ap (λ (x : Outcome). plainly o OverLength 0 x.queue None x.memory s) e
           ∙ sym (rw (eq-eqb p.answer 0 z, lt-leb p.value o.size l))
 
   -- ---- a token
@@ -78,8 +77,8 @@ module _ (o : Owning) (m : Memory) (s : List ℕ) where
   -- and what it shows that there is none
   -- the held buffer is added again
   pub gives_back : (t l : ℕ) (a : Outcome) → a ≡ add o.queue m (own_list o t)
-      → plainly o a.answer a.value a.queue Nothing a.memory s ≡ released o (Holds t l) m s
-  gives_back t l a e = ap (λ (x : Outcome). plainly o x.answer x.value x.queue Nothing x.memory s) e
+      → plainly o a.answer a.value a.queue None a.memory s ≡ released o (holds t l) m s
+  gives_back t l a e = ap (λ (x : Outcome). plainly o x.answer x.value x.queue None x.memory s) e
 
   -- ---- what passes through
 

@@ -1,16 +1,16 @@
 -- What the laws of the rules say of the struct, by the equations of the methods' contracts: a struct that passes the check passes it after every call,
 -- whatever the device wrote; each token's buffer is then out or held; a release answers the held token; and what a poll shows is viewed afterwards.
-use Rattle.std.specs.Prelude.{◌≡◌, Bool, true, ◌&&◌, List, ℕ, ◌*◌, length, take, drop}
+use Rattle.std.specs.Prelude.{◌≡◌, None, Some, Bool, true, ◌&&◌, List, ℕ, ◌*◌, length, take, drop}
 use Rattle.std.proofs.Common.{sym, ap, subst, ◌∙◌, arith, eqb-true}
 use Rattle.std.proofs.lemmas.Bool.{not-false}
 use Rattle.lists.specs.Tests.{by_eq}
 use Rattle.lists.specs.PickLaws.{first_none}
 use Rattle.virtio.specs.Memory.{Memory}
-use Rattle.rules.specs.declared.Held.TheVariants.{Nothing, Holds}
 use Rattle.rules.specs.WellFormed.{well_formed}
 use Rattle.rules.specs.Calls.{fits}
 use Rattle.rules.specs.New.{lends}
 use Rattle.rules.specs.Owning as rule
+use Rattle.rules.specs.Refused.{result_number, result_value}
 use Rattle.laws.specs.CallKeeps.{Good}
 use Rattle.laws.specs.OwnIs.{OwnGood, none_broken}
 use Rattle.laws.specs.OwnNew.{OwnMade}
@@ -27,7 +27,6 @@ use Rattle.record.specs.declared.Queue.{Queue}
 use Rattle.record.specs.Kept.{good_of}
 use Rattle.owning.specs.declared.Owning.{Owning}
 use Rattle.owning.specs.declared.Owned.{Owned}
-use Rattle.owning.specs.declared.Shows.TheVariants.{Part}
 use Rattle.owning.specs.Owned.{own_of, view_of, owned_of}
 
 -- the check finds no broken clause of a record that is well formed
@@ -77,14 +76,14 @@ module _ (o : Owning) (a : Arrays o.queue) (i : Indices o.queue.core) (w : rule.
   set_notify_stays b e = stays_of o r m' s s' _ e (keeps.after_set_notify b) (each.after_set_notify b)
 
   -- a release that answers 0 has the held token as its value, and holds nothing
-  pub release_value : owned_of r m' s' ≡ rule.release (own_of o) m s → r.answer ≡ 0 → (t l : ℕ) → o.held ≡ Holds t l → (r.value ≡ t) × (r.owning.held ≡ Nothing)
+  pub release_value : owned_of r m' s' ≡ rule.release (own_of o) m s → result_number r.outcome ≡ 0 → (t l : ℕ) → o.held ≡ rule.holds t l → (result_value r.outcome ≡ t) × (r.owning.held ≡ None)
   release_value e z t l h =
       let f : rule.release_refusal (own_of o) m s ≡ 0 = by_eq (rule.release_refusal (own_of o) m s) 0 (λ y. y) (λ y. absurd (y (sym (ap (λ (x : rule.Owned). x.answer) (e ∙ release_refused (own_of o) m s y)) ∙ z))) in
       let d : owned_of r m' s' ≡ _ = e ∙ release_done (own_of o) m s (own_good o a i w) f t l h in
       (ap (λ (x : rule.Owned). x.value) d, ap (λ (x : rule.Owned). x.owning.held) d)
 
   -- what a poll shows is viewed afterwards, of the store as it then is
-  pub poll_shown_lem : owned_of r m' s' ≡ rule.poll (own_of o) m s → (from count : ℕ) → r.shows ≡ Part from count → (t : List ℕ) → length t ≡ length s
+  pub poll_shown_lem : owned_of r m' s' ≡ rule.poll (own_of o) m s → (from count : ℕ) → r.shows ≡ Some (record { from = from; count = count }) → (t : List ℕ) → length t ≡ length s
       → rule.own_view (own_of r.owning) t ≡ take count (drop from t)
   poll_shown_lem e from count h t l =
       let v : (rule.poll (own_of o) m s).view ≡ rule.part from count = sym (ap (λ (x : rule.Owned). x.view) e) ∙ ap view_of h in
@@ -93,7 +92,7 @@ module _ (o : Owning) (a : Arrays o.queue) (i : Indices o.queue.core) (w : rule.
       ∙ ap (λ x. rule.shown x t) v
 
 -- THE LAW of new: where it answers 0, the record passes the check, and every token's buffer is out
-module _ (q : Queue) (a : Arrays q) (i : Indices q.core) (base size : ℕ) (r : Owned) (m m' : Memory) (s s' : List ℕ) (e : owned_of r m' s' ≡ rule.own_new (abs q) base size m s) (z : r.answer ≡ 0) where
+module _ (q : Queue) (a : Arrays q) (i : Indices q.core) (base size : ℕ) (r : Owned) (m m' : Memory) (s s' : List ℕ) (e : owned_of r m' s' ≡ rule.own_new (abs q) base size m s) (z : result_number r.outcome ≡ 0) where
   new_good : Good (abs q)
   new_good =
       let f : rule.own_new_refusal (abs q) base size m s ≡ 0 = sym (new_answers (abs q) base size m s) ∙ sym (ap (λ (x : rule.Owned). x.answer) e) ∙ z in

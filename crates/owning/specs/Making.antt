@@ -1,5 +1,5 @@
 -- New by its refusal, what no refusal shows, and its adds one after the other.
-use Rattle.std.specs.Prelude.{◌≡◌, Bool, true, false, ◌&&◌, List, [], ◌∷◌, ℕ, suc, ◌+◌, ◌-◌, ◌*◌, ◌≤◌, ◌<◌, ◌^◌, leb, length, replicate}
+use Rattle.std.specs.Prelude.{◌≡◌, None, Bool, true, false, ◌&&◌, List, [], ◌∷◌, ℕ, suc, ◌+◌, ◌-◌, ◌*◌, ◌≤◌, ◌<◌, ◌^◌, leb, length, replicate}
 use Rattle.std.proofs.Math.Path.{refl, sym, ap}
 use Rattle.std.proofs.Common.{◌∙◌, eq-eqb, ne_eqb, leb-true}
 use Rattle.std.proofs.lemmas.Bool.{false≢true, not-false}
@@ -8,7 +8,6 @@ use Rattle.std.proofs.lemmas.List.Edits.{sets}
 use Rattle.lists.specs.Tests.{and_left, and_right}
 use Rattle.lists.specs.PickLaws.{first_none}
 use Rattle.virtio.specs.Memory.{Memory}
-use Rattle.rules.specs.declared.Held.TheVariants.{Nothing}
 use Rattle.rules.specs.Record.{Queue}
 use Rattle.rules.specs.Answer.{Outcome}
 use Rattle.rules.specs.WellFormed.{base_ok}
@@ -29,7 +28,7 @@ module _ (q : Queue) (base size : ℕ) (m : Memory) (s : List ℕ) where
     answer = 0;
     value = 0;
     view = no_view;
-    owning = record { queue = o.queue; base = base; size = size; held = Nothing };
+    owning = record { queue = o.queue; base = base; size = size; held = None };
     memory = o.memory;
     store = t;
   }

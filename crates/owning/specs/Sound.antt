@@ -1,15 +1,14 @@
 -- What a well-formed owning record has: a well-formed queue with no call open, a store that ends within 2^64, and a held token that is one of its own.
 use Rattle.std.specs.Prelude.{◌≡◌, true, false, ℕ, ◌+◌, ◌*◌, ◌≤◌, ◌<◌, ◌^◌}
-use Rattle.std.proofs.Common.{arith}
+use Rattle.std.proofs.Common.{arith, sym, ◌∙◌}
 use Rattle.std.proofs.lemmas.Bool.{not-false}
 use Rattle.lists.specs.Tests.{and_left}
 use Rattle.virtio.specs.Memory.{Memory}
-use Rattle.rules.specs.declared.Held.TheVariants.{Holds}
 use Rattle.rules.specs.Record.{Queue, is_open}
 use Rattle.rules.specs.WellFormed.{well_formed, base_ok}
 use Rattle.rules.specs.Calls.{fits, call_refusal}
-use Rattle.rules.specs.Owning.{Owning, size_allowed, placed_clause, own_well_formed}
-use Rattle.laws.specs.OwnIs.{InHand, none_broken, own_means, slot_ends}
+use Rattle.rules.specs.Owning.{Owning, holds, size_allowed, placed_clause, own_well_formed}
+use Rattle.laws.specs.OwnIs.{InHand, same_len, none_broken, own_means, slot_ends}
 use Rattle.owns.specs.Turns.{address_fits}
 use Rattle.owns.specs.Clauses.{placed_ends}
 
@@ -33,7 +32,7 @@ module _ (o : Owning) where
   pub begins : Sound o → o.base < 2 ^ 64 → (t : ℕ) → t < o.queue.n → o.base + t * o.size < 2 ^ 64
   begins s b t l = address_fits o.base o.queue.n o.size t b l s.ends
 
-  module _ (w : own_well_formed o ≡ true) (t l : ℕ) (h : o.held ≡ Holds t l) where
+  module _ (w : own_well_formed o ≡ true) (t l : ℕ) (h : o.held ≡ holds t l) where
     -- a held token is below n
     pub held_below : t < o.queue.n
     held_below = ((own_means o w).holding t l h).below
@@ -42,8 +41,8 @@ module _ (o : Owning) where
     pub held_ends : (have : ℕ) → o.queue.n * o.size ≤ have → t * o.size + l ≤ have
     held_ends have r =
         let i : InHand o t = (own_means o w).holding t l h in
-        let f : o.held ≡ Holds t i.len = i.held in
-        let j : l ≡ i.len = cc in
+        let f : o.held ≡ holds t i.len = i.held in
+        let j : l ≡ i.len = same_len t l t i.len (sym h ∙ f) in
         let v : i.len ≤ o.size = i.within in
         let u : t * o.size + o.size ≤ o.queue.n * o.size = slot_ends o.size t o.queue.n i.below in
         omega arith

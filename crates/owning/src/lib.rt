@@ -4,125 +4,129 @@
 
 ghost use Rattle.std.specs.Prelude.{◌≡◌, true, ◌&&◌, List, [], ◌∷◌, ℕ, ◌+◌, ◌*◌, ◌≤◌, ◌<◌, ◌^◌, leb};
 ghost use Rattle.virtio.specs.Memory.{Memory};
-ghost use Rattle.rules.specs.Calls.{fits as fits_is, add as add_is, pop_used};
+ghost use Rattle.rules.specs.Calls.{fits as fits_is};
 ghost use Rattle.rules.specs.New.{lends};
-ghost use Rattle.rules.specs.Owning.{own_buffer, own_not_made, add_own, plainly as plainly_is, own_refused, showing as showing_is, poll_popped, poll_token, poll_ready, released, passed as passed_is, own_well_formed};
-ghost use Rattle.rules.specs.declared.Held.TheVariants.{Holds};
+ghost use Rattle.rules.specs.Owning.{own_buffer, own_not_made, add_own, plainly as plainly_is, own_refused, showing as showing_is, poll_token, poll_ready, passed as passed_is, own_well_formed};
+ghost use Rattle.rules.specs.Refused.{refusal_number, result_number, result_value};
 ghost use Rattle.access.specs.Accesses.{memory};
 ghost use Rattle.refusals.specs.Refusals.{fits_by};
 ghost use Rattle.record.specs.Abs.{abs};
 ghost use Rattle.record.specs.Asked.{answer_of};
-ghost use Rattle.owning.specs.Owned.{own_of, owned_of, added_of};
+ghost use Rattle.owning.specs.Owned.{own_of, owned_of, added_of, popped_of};
 
 mod calls;
 
 use heads::base_ok;
+use owns::Buffers;
 use record::{Answer, Queue};
 use refusals::fits;
-use rules::Held;
+use rules::{Held, Refusal};
 use views::Core;
+use virtio::Buffer;
 
+// An owning queue: the queue, the store's address, the size of a buffer, and what the caller holds.
 #[derive(Clone, Copy)]
 pub struct Owning {
     pub queue: Queue,
     pub base: u64,
     pub size: u32,
-    pub held: Held,
+    pub held: Option<Held>,
 }
 
-// The part of the store that a call shows: none, or so many bytes from an offset on.
-#[derive(Clone, Copy)]
-pub enum Shows {
-    Nothing,
-    Part { from: usize, count: usize },
+impl Owning {
+    // The buffers of its tokens.
+    fn buffers(&self) -> Buffers
+        ensures { result ≡ record { base = self.now.base; size = self.now.size; held = self.now.held } }
+    {
+        Buffers {
+            base: self.base,
+            size: self.size,
+            held: self.held,
+        }
+    }
+
+    // The buffer of token t.
+    fn buffer(&self, t: u16) -> Buffer
+        requires { self.now.base + t * self.now.size < 2 ^ 64 }
+        ensures { result ≡ own_buffer self.now.base self.now.size t }
+    {
+        self.buffers().buffer(t)
+    }
 }
 
-// What a call answers: the number, the value, the part of the store that it shows, and the record.
+// A part of the store: so many bytes from an offset on.
+#[derive(Clone, Copy, PartialEq, Eq, Debug)]
+pub struct Part {
+    pub from: usize,
+    pub count: usize,
+}
+
+// What a call answers: its value, or why it was refused; the part of the store that it shows, if any; and the record after it.
 #[derive(Clone, Copy)]
 pub struct Owned {
-    pub answer: u8,
-    pub value: u32,
-    pub shows: Shows,
+    pub outcome: Result<u32, Refusal>,
+    pub shows: Option<Part>,
     pub owning: Owning,
 }
 
 // ---- answers
 
 // An answer without a view.
-fn plainly(answer: u8, value: u32, queue: Queue, o: Owning, held: Held) -> Owned
-    ensures { (m : Memory) (s : List ℕ) → owned_of result m s ≡ plainly_is (own_of o) answer value (abs queue) held m s }
+fn plainly(outcome: Result<u32, Refusal>, queue: Queue, o: Owning, held: Option<Held>) -> Owned
+    ensures { (m : Memory) (s : List ℕ) → owned_of result m s ≡ plainly_is (own_of o) (result_number outcome) (result_value outcome) (abs queue) held m s }
 {
-    let owning = Owning {
-        queue,
-        base: o.base,
-        size: o.size,
-        held,
-    };
     Owned {
-        answer,
-        value,
-        shows: Shows::Nothing,
-        owning,
+        outcome,
+        shows: None,
+        owning: Owning { queue, held, ..o },
     }
 }
 
-fn refused(number: u8, o: Owning) -> Owned
-    ensures { (m : Memory) (s : List ℕ) → owned_of result m s ≡ own_refused (own_of o) number m s }
+// The answer of a call that is refused, which leaves the record as it was.
+fn refused(why: Refusal, o: Owning) -> Owned
+    ensures { (m : Memory) (s : List ℕ) → owned_of result m s ≡ own_refused (own_of o) (refusal_number why) m s }
 {
-    let queue = o.queue;
-    let held = o.held;
-    plainly(number, 0, queue, o, held)
+    plainly(Err(why), o.queue, o, o.held)
 }
 
 // The queue's own answer.
 fn passed(o: Owning, r: Answer) -> Owned
     ensures { (m : Memory) (store : List ℕ) → owned_of result m store ≡ passed_is (own_of o) (answer_of r m) store }
 {
-    let queue = r.queue;
-    let held = o.held;
-    plainly(r.answer, r.value, queue, o, held)
+    plainly(r.outcome, r.queue, o, o.held)
 }
 
 // A record that new did not make.
-fn not_made(number: u8, queue: Queue) -> Owned
-    ensures { (m : Memory) (s : List ℕ) → owned_of result m s ≡ own_not_made number (abs queue) m s }
+fn not_made(why: Refusal, queue: Queue) -> Owned
+    ensures { (m : Memory) (s : List ℕ) → owned_of result m s ≡ own_not_made (refusal_number why) (abs queue) m s }
 {
-    let owning = Owning {
-        queue,
-        base: 0,
-        size: 0,
-        held: Held::Nothing,
-    };
     Owned {
-        answer: number,
-        value: 0,
-        shows: Shows::Nothing,
-        owning,
+        outcome: Err(why),
+        shows: None,
+        owning: Owning {
+            queue,
+            base: 0,
+            size: 0,
+            held: None,
+        },
     }
 }
 
 // The buffer of token t was popped, and is held and shown, as many bytes as the device told.
-fn showing(o: Owning, r: Answer, t: u16) -> Owned
-    ensures { (m : Memory) (store : List ℕ) → owned_of result m store ≡ showing_is (own_of o) (answer_of r m) t store }
+fn showing(queue: Queue, o: Owning, t: u16, len: u32) -> Owned
+    ensures { (m : Memory) (store : List ℕ) → owned_of result m store ≡ showing_is (own_of o) (popped_of (abs queue) len m) t store }
 {
-    let queue = r.queue;
-    let owning = Owning {
-        queue,
-        base: o.base,
-        size: o.size,
-        held: Held::Holds {
-            token: t,
-            len: r.value,
-        },
-    };
     Owned {
-        answer: 0,
-        value: t as u32,
-        shows: Shows::Part {
+        outcome: Ok(t as u32),
+        shows: Some(Part {
             from: (t as usize) * (o.size as usize),
-            count: r.value as usize,
+            count: len as usize,
+        }),
+        owning: Owning {
+            queue,
+            held: Some(Held { token: t, len }),
+            ..o
         },
-        owning,
     }
 }
 
@@ -132,10 +136,7 @@ fn showing(o: Owning, r: Answer, t: u16) -> Owned
 fn own_fits(c: Core, size: u32, one: usize, two: usize, pool: usize, store: usize) -> bool
     ensures { result ≡ (fits_by c one two pool && leb (c.n * size) store) }
 {
-    if !fits(c, one, two, pool) {
-        return false;
-    }
-    (c.n as usize) * (size as usize) <= store
+    fits(c, one, two, pool) && (c.n as usize) * (size as usize) <= store
 }
 
 // Whether they do for new, which asks of the store's address what is asked of a region's.
@@ -150,108 +151,44 @@ fn new_fits(
 ) -> bool
     ensures { result ≡ (fits_by c one two pool && lends base (c.n * size) store) }
 {
-    if !own_fits(c, size, one, two, pool, store) {
-        return false;
-    }
-    base_ok(base, (c.n as u64) * (size as u64))
+    own_fits(c, size, one, two, pool, store) && base_ok(base, (c.n as u64) * (size as u64))
 }
 
-// ---- a token's own buffer
-
-// Adds the buffer of token t.
-fn add_own(
-    queue: Queue,
-    base: u64,
-    size: u32,
-    t: u16,
-    one: &mut [u8],
-    two: &[u8],
-    pool: &mut [u8],
-) -> Answer
-    requires { base + t * size < 2 ^ 64 }
-    ensures { answer_of result (memory one.new two.now pool.new) ≡ add_is (abs queue) (memory one.old two.now pool.old) (own_buffer base size t ∷ []) }
-{
-    let addrs = [base + (t as u64) * (size as u64)];
-    let sizes = [size];
-    let outs = [1u8];
-    queue.add(&addrs, &sizes, &outs, one, two, pool)
-}
-
-// Pops it.
-fn pop_own(
-    queue: Queue,
-    base: u64,
-    size: u32,
-    t: u16,
-    one: &mut [u8],
-    two: &[u8],
-    pool: &mut [u8],
-) -> Answer
-    requires { base + t * size < 2 ^ 64 }
-    ensures { answer_of result (memory one.new two.now pool.new) ≡ pop_used (abs queue) (memory one.old two.now pool.old) t (own_buffer base size t ∷ []) }
-{
-    let addrs = [base + (t as u64) * (size as u64)];
-    let sizes = [size];
-    let outs = [1u8];
-    queue.pop_used(t as u32, &addrs, &sizes, &outs, one, two, pool)
-}
+// ---- the adds of new
 
 // Adds the buffers of all n tokens, each by itself.
-fn add_all(
-    queue: Queue,
-    n: u16,
-    base: u64,
-    size: u32,
-    one: &mut [u8],
-    two: &[u8],
-    pool: &mut [u8],
-) -> Queue
-    requires { base + n * size ≤ 2 ^ 64 }
-    ensures { added_of (abs result) (memory one.new two.now pool.new) ≡ add_own base size n 0 (abs queue) (memory one.old two.now pool.old) }
+fn add_all(queue: Queue, own: Buffers, one: &mut [u8], two: &[u8], pool: &mut [u8]) -> Queue
+    requires { own.base + queue.core.n * own.size ≤ 2 ^ 64 }
+    ensures { added_of (abs result) (memory one.new two.now pool.new) ≡ add_own own.base own.size queue.core.n 0 (abs queue) (memory one.old two.now pool.old) }
 {
     let mut q = queue;
-    let mut i: u16 = 0;
-    while i < n {
-        let r = add_own(q, base, size, i, one, two, pool);
-        q = r.queue;
-        i += 1;
+    for i in 0..queue.core.n {
+        q = q.add(&[own.buffer(i)], one, two, pool).queue;
     }
     q
 }
 
-// ---- poll and release past their refusals
+// ---- poll past its refusals
 
-// The popped buffer of token t is held and shown; or, where the device told a length above the size, added again. A pop that was refused, since the
-// device wrote after the look, is answered as it is.
-fn popped(o: Owning, r: Answer, t: u16, one: &mut [u8], two: &[u8], pool: &mut [u8]) -> Owned
-    requires { o.base + t * o.size < 2 ^ 64 }
-    ensures { (store : List ℕ) → owned_of result (memory one.new two.now pool.new) store ≡ poll_popped (own_of o) (answer_of r (memory one.old two.now pool.old)) t store }
-{
-    if r.answer != 0 {
-        return passed(o, r);
-    }
-    if r.value <= o.size {
-        return showing(o, r, t);
-    }
-    let queue = r.queue;
-    let again = add_own(queue, o.base, o.size, t, one, two, pool);
-    let after = again.queue;
-    plainly(10, 0, after, o, Held::Nothing)
-}
-
-// The waiting element names token t.
+// The waiting element names token t: its buffer is popped, and is held and shown; or, where the device told a length above the size, added again. A pop that
+// is refused, since the device wrote after the look, is answered as it is.
 fn poll_token(o: Owning, t: u32, one: &mut [u8], two: &[u8], pool: &mut [u8]) -> Owned
     requires { own_well_formed (own_of o) ≡ true }
     ensures { (store : List ℕ) → owned_of result (memory one.new two.now pool.new) store ≡ poll_token (own_of o) t (memory one.old two.now pool.old) store }
 {
-    let queue = o.queue;
-    let core = queue.core;
-    if core.n as u32 <= t {
-        return refused(4, o);
+    if o.queue.core.n as u32 <= t {
+        return refused(Refusal::WrongToken, o);
     }
-    let h = t as u16;
-    let r = pop_own(queue, o.base, o.size, h, one, two, pool);
-    popped(o, r, h, one, two, pool)
+    let own = [o.buffer(t as u16)];
+    let r = o.queue.pop_used(t, &own, one, two, pool);
+    let Ok(len) = r.outcome else {
+        return passed(o, r);
+    };
+    if len <= o.size {
+        return showing(r.queue, o, t as u16, len);
+    }
+    let again = r.queue.add(&own, one, two, pool);
+    plainly(Err(Refusal::OverLength), again.queue, o, None)
 }
 
 // A poll that nothing refuses.
@@ -260,21 +197,8 @@ fn poll_ready(o: Owning, one: &mut [u8], two: &[u8], pool: &mut [u8]) -> Owned
     requires pool_value { fits_is (abs o.queue) (memory one.old two.now pool.old) ≡ true }
     ensures { (store : List ℕ) → owned_of result (memory one.new two.now pool.new) store ≡ poll_ready (own_of o) (memory one.old two.now pool.old) store }
 {
-    let queue = o.queue;
-    let seen = queue.peek_used(one, two, pool);
-    if seen.answer != 0 {
-        return refused(0, o);
+    match o.queue.peek_used(one, two, pool).outcome {
+        Err(_) => plainly(Ok(0), o.queue, o, o.held),
+        Ok(token) => poll_token(o, token, one, two, pool),
     }
-    poll_token(o, seen.value, one, two, pool)
-}
-
-// A release that nothing refuses: the buffer of token t is added again.
-fn give_back(o: Owning, t: u16, one: &mut [u8], two: &[u8], pool: &mut [u8]) -> Owned
-    requires { o.base + t * o.size < 2 ^ 64 }
-    ensures { (l : ℕ) (store : List ℕ) → owned_of result (memory one.new two.now pool.new) store ≡ released (own_of o) (Holds t l) (memory one.old two.now pool.old) store }
-{
-    let queue = o.queue;
-    let r = add_own(queue, o.base, o.size, t, one, two, pool);
-    let after = r.queue;
-    plainly(r.answer, r.value, after, o, Held::Nothing)
 }

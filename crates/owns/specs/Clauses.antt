@@ -1,14 +1,13 @@
 -- The number of an owning record's first broken clause, case by case, as the code goes through them; and the held clause.
-use Rattle.std.specs.Prelude.{◌≡◌, true, false, ℕ, ◌+◌, ◌*◌, ◌≤◌, ◌<◌, ◌%◌, ◌^◌, leb, eqb}
+use Rattle.std.specs.Prelude.{◌≡◌, Bool, true, false, cond, ℕ, ◌+◌, ◌*◌, ◌≤◌, ◌<◌, ◌%◌, ◌^◌, leb, eqb}
 use Rattle.std.proofs.Math.Path.{sym}
 use Rattle.std.proofs.Common.{◌∙◌, eq-eqb, ne_eqb, lt-ltb, le-ltb, leb-true}
 use Rattle.std.proofs.Math.Bool.{and-false}
-use Rattle.lists.specs.Tests.{and_right}
+use Rattle.lists.specs.Tests.{and_left, and_right}
 use Rattle.lists.specs.Pick.{every}
-use Rattle.rules.specs.declared.Held.TheVariants.{Holds}
 use Rattle.rules.specs.Record.{Queue, outstanding, is_open}
 use Rattle.rules.specs.WellFormed.{broken, well_formed, base_ok}
-use Rattle.rules.specs.Owning.{Owning, size_allowed, own_clause, held_clause, own_broken}
+use Rattle.rules.specs.Owning.{Owning, holds, size_allowed, placed_clause, own_clause, held_clause, own_broken}
 use Rattle.owns.specs.Turns.{out_but}
 
 pub unbroken : (q : Queue) → broken q ≡ 0 → well_formed q ≡ true
@@ -56,19 +55,44 @@ module _ (o : Owning) where
           unfolding own_broken
           by_none h = sym (rw (unbroken o.queue w, i, b, z, c, h))
 
+-- ---- the same by what is asked: base and size in one, and what is held last
+
+module _ (o : Owning) where
+  pub placed_within : placed_clause o ≡ true → o.base + o.queue.n * o.size ≤ 2 ^ 64
+  placed_within p = placed_ends o.base o.size o.queue.n (and_left (base_ok o.base (o.queue.n * o.size)) (size_allowed o.size) p)
+
+  module _ (w : broken o.queue ≡ 0) (i : is_open o.queue.call ≡ false) where
+    pub by_placed : placed_clause o ≡ false → 12 ≡ own_broken o
+    unfolding own_broken
+    by_placed p = sym (rw (unbroken o.queue w, i, p))
+
+    module _ (p : placed_clause o ≡ true) where
+      abbrev based : base_ok o.base (o.queue.n * o.size) ≡ true
+      based = and_left (base_ok o.base (o.queue.n * o.size)) (size_allowed o.size) p
+
+      abbrev sized : size_allowed o.size ≡ true
+      sized = and_right (base_ok o.base (o.queue.n * o.size)) (size_allowed o.size) p
+
+      pub by_owned : own_clause o ≡ false → 13 ≡ own_broken o
+      by_owned c = by_own o w i based sized c
+
+      pub by_last : own_clause o ≡ true → (b : Bool) → b ≡ held_clause o o.held → cond b 0 14 ≡ own_broken o
+      by_last c true h = by_none o w i based sized c (sym h)
+      by_last c false h = by_held o w i based sized c (sym h)
+
 -- ---- what is held, in the order of its tests
 
 module _ (o : Owning) (t l : ℕ) where
-  pub held_past : o.queue.n ≤ t → false ≡ held_clause o (Holds t l)
+  pub held_past : o.queue.n ≤ t → false ≡ held_clause o (holds t l)
   held_past p = sym (rw (le-ltb t o.queue.n p))
 
   module _ (p : t < o.queue.n) where
-    pub held_out : outstanding o.queue t ≡ true → false ≡ held_clause o (Holds t l)
+    pub held_out : outstanding o.queue t ≡ true → false ≡ held_clause o (holds t l)
     held_out u = sym (rw (u, lt-ltb t o.queue.n p))
 
     module _ (u : outstanding o.queue t ≡ false) where
-      pub held_short : every (out_but o.queue t) o.queue.n 0 ≡ false → false ≡ held_clause o (Holds t l)
+      pub held_short : every (out_but o.queue t) o.queue.n 0 ≡ false → false ≡ held_clause o (holds t l)
       held_short e = sym (rw (u, e, lt-ltb t o.queue.n p))
 
-      pub held_length : every (out_but o.queue t) o.queue.n 0 ≡ true → leb l o.size ≡ held_clause o (Holds t l)
+      pub held_length : every (out_but o.queue t) o.queue.n 0 ≡ true → leb l o.size ≡ held_clause o (holds t l)
       held_length e = sym (rw (u, e, lt-ltb t o.queue.n p))

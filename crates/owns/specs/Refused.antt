@@ -6,6 +6,7 @@ use Rattle.lists.specs.Pick.{first, rising, same}
 use Rattle.rules.specs.Record.{Queue, free_list, is_open}
 use Rattle.rules.specs.WellFormed.{broken}
 use Rattle.rules.specs.Owning.{Owning, size_allowed, holds_none, own_broken, own_well_formed, own_new_tests, poll_tests, release_tests}
+use Rattle.owns.specs.Owns.{lent_tests}
 use Rattle.owns.specs.Clauses.{unbroken, is_broken}
 
 -- ---- new
@@ -47,6 +48,9 @@ module _ (o : Owning) where
   own_bad e = ne_eqb (own_broken o) 0 e
 
   module _ (fit : Bool) where
+    pub lent_bad : (own_broken o ≡ 0 → ⊥) → 12 ≡ first (lent_tests o fit)
+    lent_bad w = sym (rw (own_bad w))
+
     pub poll_bad : (own_broken o ≡ 0 → ⊥) → 12 ≡ first (poll_tests o fit)
     poll_bad w = sym (rw (own_bad w))
 
@@ -54,6 +58,12 @@ module _ (o : Owning) where
     release_bad w = sym (rw (own_bad w))
 
     module _ (w : own_broken o ≡ 0) where
+      pub lent_short : fit ≡ false → 13 ≡ first (lent_tests o fit)
+      lent_short f = sym (rw (own_well w, f))
+
+      pub lent_told : fit ≡ true → 0 ≡ first (lent_tests o fit)
+      lent_told f = sym (rw (own_well w, f))
+
       pub poll_short : fit ≡ false → 13 ≡ first (poll_tests o fit)
       poll_short f = sym (rw (own_well w, f))
 

@@ -1,6 +1,7 @@
 -- What the loops over heads and over the free list test, turn by turn; and a token's own buffer as the list of one that the code lends.
 use Rattle.std.specs.Prelude.{◌≡◌, refl, Bool, true, false, not, ◌||◌, List, [], ◌∷◌, eqb, length}
 use Rattle.std.proofs.Common.{sym, ap, ◌∙◌, mul-le-mul, mul-le-mul_right}
+use Rattle.std.specs.List.{list_all, range_with_len}
 use Prim.Native.Nat.{ℕ, zero, suc, ◌+◌, ◌-◌, ◌*◌, ◌≤◌, ◌<◌, ◌^◌}
 use native.Mathlib.Omega.{arith}
 use borrow.Author.Tests.{lt-ltb, eq-eqb, ne_eqb}
@@ -73,6 +74,12 @@ every_below p n (suc m) i l = rw (ne_eqb i n (omega arith), every_below p n m (s
 
 pub but_nothing : (q : Queue) → every (out_but q q.n) q.n 0 ≡ every (outstanding q) q.n 0
 but_nothing q = every_below (outstanding q) q.n q.n 0 (omega arith)
+
+-- a test at each of a run of numbers, as an iterator over them makes it
+pub every_listed : (p : ℕ → Bool) (m i : ℕ) → list_all p (range_with_len i m) ≡ every p m i
+unfolding every
+every_listed p zero i = refl
+every_listed p (suc m) i = let e : i + 1 ≡ suc i = omega arith in rw (e, every_listed p m (suc i))
 
 -- ---- the free list in the order of its numbers
 

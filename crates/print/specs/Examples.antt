@@ -1,4 +1,4 @@
--- Worked examples: decimals, a line, a text that does not fit, and that put_report's list is a report.
+-- Worked examples: decimals, a line, a text that does not fit, and that report's list is a report.
 use Rattle.std.specs.Prelude.{◌≡◌, refl, List, [], ◌∷◌, ◌++◌, ℕ, ◌-◌, ◌^◌}
 use Rattle.rules.specs.Answer.{Outcome}
 use Rattle.rules.specs.Record.{free_count}
@@ -42,7 +42,7 @@ cut_off = record { count = refl; bytes = refl }
 pub rest_stays : Written (7 ∷ 7 ∷ 7 ∷ []) (49 ∷ 7 ∷ 7 ∷ []) 1 (49 ∷ [])
 rest_stays = record { count = refl; bytes = refl }
 
--- what put_report writes of an outcome's numbers is the report of that outcome
+-- what report writes of an outcome's numbers is the report of that outcome
 pub report_is
     : (op : List ℕ) (r : Outcome)
     → op

@@ -7,3 +7,4 @@ pub mod Words
 pub mod Print
 pub mod Laws
 pub mod Examples
+pub mod Page

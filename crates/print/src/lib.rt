@@ -22,66 +22,68 @@ fn put(out: &mut [u8], at: usize, b: u8) -> usize
 }
 
 // A whole text, byte by byte, so that one that does not fit is cut off and not refused.
-pub fn put_text(out: &mut [u8], at: usize, text: &[u8]) -> usize
+fn put_text(out: &mut [u8], at: usize, text: &[u8]) -> usize
     ensures { (before said : List ℕ)
         → Written before out.old at said
         → Written before out.new result (said ++ text.now) }
 {
-    let mut p = at;
-    let mut i: usize = 0;
-    while i < text.len() {
-        p = put(out, p, text[i]);
-        i += 1;
+    let mut end = at;
+    for byte in text {
+        end = put(out, end, *byte);
     }
-    p
+    end
 }
 
-// 20 bytes hold every number of 64 bits.
-pub fn put_number(out: &mut [u8], at: usize, value: u64) -> usize
-    ensures { (before said : List ℕ)
-        → Written before out.old at said
-        → Written before out.new result (said ++ decimal_is value) }
-{
-    let mut text = [0u8; 20];
-    let count = decimal(value, &mut text);
-    put_text(out, at, &text[..count])
+// A page that is written from its start, as far as there is room, and how much of it was.
+#[derive(Drop)]
+pub struct Page<'a> {
+    pub bytes: &'a mut [u8],
+    pub said: usize,
 }
 
-// A line of a key and a number.
-pub fn put_field(out: &mut [u8], at: usize, key: &[u8], value: u64) -> usize
-    ensures { (before said : List ℕ)
-        → Written before out.old at said
-        → Written before out.new result (said ++ field_line key.now value) }
-{
-    let p = put_text(out, at, key);
-    let q = put_number(out, p, value);
-    put_text(out, q, b"\n")
-}
+impl Page<'_> {
+    ghost use Rattle.print.specs.Page.{Says};
 
-// The five lines of a call.
-pub fn put_report(
-    out: &mut [u8],
-    at: usize,
-    op: &[u8],
-    answer: u8,
-    value: u32,
-    steps: u32,
-    free: u16,
-) -> usize
-    ensures { (before said : List ℕ)
-        → Written before out.old at said
-        → Written before out.new result (said ++ (
-        op.now
-        ++ field_line word_answer answer
-        ++ field_line word_value value
-        ++ field_line word_steps steps
-        ++ field_line word_free free)) }
-{
-    let mut p = put_text(out, at, op);
-    p = put_field(out, p, b"answer=", answer as u64);
-    p = put_field(out, p, b"value=", value as u64);
-    p = put_field(out, p, b"steps=", steps as u64);
-    put_field(out, p, b"free=", free as u64)
+    // A whole text, or as much of it as fits.
+    pub fn text(&mut self, text: &[u8])
+        ensures { Says self.old self.new text.now }
+    {
+        self.said = put_text(self.bytes, self.said, text);
+    }
+
+    // A number in plain decimal: 20 bytes hold every one of 64 bits.
+    pub fn number(&mut self, value: u64)
+        ensures { Says self.old self.new (decimal_is value) }
+    {
+        let mut digits = [0u8; 20];
+        let count = decimal(value, &mut digits);
+        self.text(&digits[..count]);
+    }
+
+    // A line of a key and a number.
+    pub fn field(&mut self, key: &[u8], value: u64)
+        ensures { Says self.old self.new (field_line key.now value) }
+    {
+        self.text(key);
+        self.number(value);
+        self.text(b"\n");
+    }
+
+    // The five lines of a call.
+    pub fn report(&mut self, op: &[u8], answer: u8, value: u32, steps: u32, free: u16)
+        ensures { Says self.old self.new (
+            op.now
+            ++ field_line word_answer answer
+            ++ field_line word_value value
+            ++ field_line word_steps steps
+            ++ field_line word_free free) }
+    {
+        self.text(op);
+        self.field(b"answer=", answer as u64);
+        self.field(b"value=", value as u64);
+        self.field(b"steps=", steps as u64);
+        self.field(b"free=", free as u64);
+    }
 }
 
 // Writes the first `count` bytes, and nothing where there are fewer.

@@ -1,8 +1,9 @@
 -- A step as the rules have it: its access and its reaction together; what it keeps; and a run's turns and ends.
-use Rattle.std.specs.Prelude.{◌≡◌, refl, Bool, true, false, List, ℕ, suc, ◌+◌, ◌-◌, ◌≤◌, ◌<◌, length}
+use Rattle.std.specs.Prelude.{◌≡◌, refl, true, false, Result, List, ℕ, suc, ◌+◌, ◌≤◌, length}
 use Rattle.std.proofs.Common.{sym, ap, ap₂, ◌∙◌, subst, arith}
 use Rattle.virtio.specs.Layout.{need_one, need_two, need_pool}
 use Rattle.virtio.specs.Memory.{Memory}
+use Rattle.rules.specs.declared.Refusal.{Refusal}
 use Rattle.rules.specs.Record.{Queue, Tables, is_open}
 use Rattle.rules.specs.Answer.{Outcome}
 use Rattle.rules.specs.Step.{Access, access, loaded, accessed, react, move}
@@ -11,8 +12,10 @@ use Rattle.laws.specs.CallKeeps.{Good, move_keeps}
 use Rattle.laws.specs.Runs.{moves_closed, moves_open}
 use Rattle.laws.specs.Regions.{Shaped, react_shaped}
 use Rattle.views.specs.declared.Core.{Core}
-use Rattle.views.specs.Tables.{tables_of, queue_of}
-use Rattle.tables.specs.Ready.{Ready, Fitting}
+use Rattle.views.specs.Tables.{queue_of}
+use Rattle.tables.specs.declared.TablesMut.{TablesMut}
+use Rattle.tables.specs.Lent.{tables_held, SameLoan}
+use Rattle.tables.specs.Ready.{ReadyHeld, Fitting}
 use Rattle.react.specs.declared.Reacted.{Reacted}
 use Rattle.react.specs.Reactions.{reacted_of}
 use Rattle.asks.specs.declared.Done.{Done}
@@ -59,14 +62,13 @@ fitting_like c d one two pool one' pool' size modes l k f =
       pool_of = λ i. (let x = f.pool_of (sym e ∙ i) in omega arith);
     }
 
--- the words and bytes before a step and after it
+-- the tables and bytes before a step and after it
 module _
-    (c : Core) (r : ℕ) (words lens halves : List ℕ) (sides : List Bool) (one two pool : List ℕ)
-    (s : Reacted) (words' lens' halves' : List ℕ) (sides' : List Bool) (one' pool' : List ℕ)
-    (e : stepped_of s (tables_of r words' lens' halves' sides') (record { one = one'; two = two; pool = pool' })
-    ≡ move (queue_of c (tables_of r words lens halves sides)) (record { one = one; two = two; pool = pool })) where
+    (c : Core) (t : TablesMut) (one two pool : List ℕ) (s : Reacted) (t' : TablesMut) (one' pool' : List ℕ)
+    (e : stepped_of s (tables_held t') (record { one = one'; two = two; pool = pool' })
+    ≡ move (queue_of c (tables_held t)) (record { one = one; two = two; pool = pool })) where
   abbrev q : Queue
-  q = queue_of c (tables_of r words lens halves sides)
+  q = queue_of c (tables_held t)
 
   abbrev m : Memory
   m = record { one = one; two = two; pool = pool }
@@ -77,19 +79,13 @@ module _
   same_modes : s.core.modes ≡ c.modes
   same_modes = ap (λ (o : Outcome). o.queue.modes) e ∙ (moved_shape q m).modes
 
-  pub ready_on
-      : length words' ≡ length words
-      → length lens' ≡ length lens
-      → length halves' ≡ length halves
-      → length sides' ≡ length sides
-      → Ready c r words lens halves sides
-      → Ready s.core r words' lens' halves' sides'
-  ready_on w l h b d = record {
-    within = subst (λ n. n ≤ r) (sym same_size) d.within;
-    words_of = (let x = d.words_of in omega arith);
-    lens_of = (let x = d.lens_of in omega arith);
-    halves_of = (let x = d.halves_of in omega arith);
-    sides_of = (let x = d.sides_of in omega arith);
+  pub ready_on : t'.room ≡ t.room → ReadyHeld c t → ReadyHeld s.core t'
+  ready_on r d = record {
+    within = (let k : s.core.n ≡ c.n = same_size in let w : c.n ≤ t.room = d.within in omega arith);
+    words_of = t'.words_of;
+    lens_of = t'.lens_of;
+    halves_of = t'.halves_of;
+    sides_of = t'.sides_of;
     good = subst Good (sym (ap (λ (o : Outcome). o.queue) e)) (move_keeps q m d.good);
   }
 
@@ -98,19 +94,16 @@ module _
 
   -- a run's turn, where a call is open and steps are left
   pub run_turn
-      : (answer value steps k : ℕ) (x : Done)
+      : (x : Result ℕ Refusal) (steps k rest : ℕ)
       → is_open c.call ≡ true
-      → 0 < k
-      → x ≡ record { core = s.core; answer = s.answer; value = s.value; steps = steps + 1 }
-      → moves k (record { answer = answer; value = value; steps = steps; queue = q; memory = m })
-      ≡ moves (k - 1) (done_of x (tables_of r words' lens' halves' sides') (record { one = one'; two = two; pool = pool' }))
-  run_turn answer value steps k x i l g =
-      let o : Outcome = record { answer = answer; value = value; steps = steps; queue = q; memory = m } in
-      let k-is : k ≡ suc (k - 1) = omega arith in
-      ap (λ b. moves b o) k-is
-      ∙ moves_open (k - 1) o i
-      ∙ ap (λ p. moves (k - 1) (and_then o p)) (sym e)
-      ∙ ap (λ z. moves (k - 1) (done_of z (tables_of r words' lens' halves' sides') (record { one = one'; two = two; pool = pool' }))) (sym g)
+      → k ≡ suc rest
+      → moves k (done_of (record { core = c; outcome = x; steps = steps }) (tables_held t) m)
+      ≡ moves rest (done_of (record { core = s.core; outcome = s.outcome; steps = steps + 1 }) (tables_held t') (record { one = one'; two = two; pool = pool' }))
+  run_turn x steps k rest i l =
+      let o : Outcome = done_of (record { core = c; outcome = x; steps = steps }) (tables_held t) m in
+      ap (λ b. moves b o) l
+      ∙ moves_open rest o i
+      ∙ ap (λ p. moves rest (and_then o p)) (sym e)
 
 -- its ends: no call is open, or no step is left
 pub run_closed : (o : Done) (t : Tables) (m : Memory) (k : ℕ) → is_open o.core.call ≡ false → done_of o t m ≡ moves k (done_of o t m)
@@ -120,18 +113,13 @@ pub run_over : (o : Done) (t : Tables) (m : Memory) (k : ℕ) → k ≡ 0 → do
 unfolding moves
 run_over o t m k e = rw e refl
 
--- no list has grown or shrunk
-pub record Kept (words lens halves : List ℕ) (sides : List Bool) (one pool words' lens' halves' : List ℕ) (sides' : List Bool) (one' pool' : List ℕ) : Type 0 where
-  pub words_kept : length words' ≡ length words
-  pub lens_kept : length lens' ≡ length lens
-  pub halves_kept : length halves' ≡ length halves
-  pub sides_kept : length sides' ≡ length sides
-  pub one_kept : length one' ≡ length one
-  pub pool_kept : length pool' ≡ length pool
-
--- What a run's loop keeps: the whole run is what is left of it from here; the record is checked, the regions do; every step was counted.
-pub record Running (start : Outcome) (budget : ℕ) (o : Done) (left r : ℕ) (words lens halves : List ℕ) (sides : List Bool) (one two pool : List ℕ) : Type 0 where
-  pub same : moves budget start ≡ moves left (done_of o (tables_of r words lens halves sides) (record { one = one; two = two; pool = pool }))
-  pub ready : Ready o.core r words lens halves sides
+-- What a run's loop keeps: the whole run is what is left of it from here; the record is checked, the regions do; every step was counted; no region has grown
+-- or shrunk, and the tables lent stay the same.
+pub record Running (start : TablesMut) (first : Outcome) (budget : ℕ) (o : Done) (left : ℕ) (t : TablesMut) (one two pool : List ℕ) : Type 0 where
+  pub same : moves budget first ≡ moves left (done_of o (tables_held t) (record { one = one; two = two; pool = pool }))
+  pub ready : ReadyHeld o.core t
   pub fitting : Fitting o.core one two pool
   pub count : o.steps + left ≡ budget
+  pub same_loan : SameLoan start t
+  pub one_kept : length one ≡ length first.memory.one
+  pub pool_kept : length pool ≡ length first.memory.pool

@@ -7,6 +7,7 @@ use Rattle.virtio.specs.declared.Desc.{Desc}
 use Rattle.virtio.specs.Desc.{no_desc, no_buffer}
 use Rattle.rules.specs.declared.Open.{Open}
 use Rattle.rules.specs.Record.{Tables}
+use Rattle.rules.specs.Refused.{result_number, result_value}
 use Rattle.rules.specs.Step.{Reaction, empty_all, relink}
 use Rattle.views.specs.declared.Core.{Core}
 use Rattle.views.specs.Tables.{queue_of}
@@ -50,7 +51,7 @@ freed_core c k t = record {
 }
 
 abbrev pub reacted_of : Reacted → Tables → Reaction
-reacted_of r t = record { answer = r.answer; value = r.value; queue = queue_of r.core t }
+reacted_of r t = record { answer = result_number r.outcome; value = result_value r.outcome; queue = queue_of r.core t }
 
 -- what descriptor i links to; the table with the k descriptors from h on emptied, the last of them linked to x
 abbrev pub links : List Desc → ℕ → ℕ

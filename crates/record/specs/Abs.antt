@@ -7,6 +7,7 @@ use Rattle.rules.specs.New.{limit}
 use Rattle.views.specs.declared.Core.{Core}
 use Rattle.views.specs.Tables.{tables_of, queue_of}
 use Rattle.views.specs.Fixed.{Stored, words_fixed, lens_fixed, halves_fixed, sides_fixed}
+use Rattle.tables.specs.declared.TablesRef.{TablesRef}
 use Rattle.record.specs.declared.Queue.{Queue}
 
 abbrev pub room : ℕ
@@ -14,6 +15,14 @@ room = limit
 
 abbrev pub abs : Queue → model.Queue
 abs q = queue_of q.core (tables_of room q.words q.lens q.halves q.sides)
+
+-- its tables as they are lent to be read
+pub record Lends (q : Queue) (t : TablesRef) : Type 0 where
+  pub has_room : t.room ≡ room
+  pub words : t.words.now ≡ q.words
+  pub lens : t.lens.now ≡ q.lens
+  pub halves : t.halves.now ≡ q.halves
+  pub sides : t.sides.now ≡ q.sides
 
 -- the arrays of every struct have these lengths
 abbrev pub Arrays : Queue → Type 0

@@ -8,6 +8,7 @@ use Rattle.virtio.specs.Desc.{no_buffer}
 use Rattle.virtio.specs.Memory.{Memory}
 use Rattle.rules.specs.WellFormed.{well_formed}
 use Rattle.rules.specs.Answer.{Outcome}
+use Rattle.rules.specs.Refused.{result_number}
 use Rattle.rules.specs.Calls.{add_refusal, add, pop_used}
 use Rattle.laws.specs.Reads.{Narrow, AllNarrow, Reads}
 use Rattle.laws.specs.Published.{add_publishes}
@@ -39,7 +40,7 @@ module _ (q : Queue) (a : Arrays q) (i : Indices q.core) (w : well_formed (abs q
       : (bs : List Buffer)
       → AllNarrow bs
       → answer_of r m' ≡ add (abs q) m bs
-      → r.answer ≡ 0
+      → result_number r.outcome ≡ 0
       → Reads q.core.modes.legacy q.core.n q.core.base m' q.core.avail_idx q.core.free_head bs
   add_published bs f e z =
       let n : add_refusal (abs q) m bs ≡ 0 = by_eq (add_refusal (abs q) m bs) 0 (λ y. y) (λ y. absurd (y (sym (ap (λ (o : Outcome). o.answer) (add_refused (abs q) m bs y)) ∙ sym (ap (λ (o : Outcome). o.answer) e) ∙ z))) in

@@ -14,8 +14,11 @@ use Rattle.laws.specs.WellFormedIs.{means_size, well_formed_means}
 use Rattle.laws.specs.StepKeeps.{power_most}
 use Rattle.views.specs.declared.Core.{Core}
 use Rattle.views.specs.Tables.{desc_in, entry_in, tables_of, queue_of}
-use Rattle.wellformed.specs.Room.{Room}
-use Rattle.tables.specs.Ready.{Ready, Fitting}
+use Rattle.wellformed.specs.Room.{Room, HasRoom, room_of}
+use Rattle.tables.specs.declared.TablesRef.{TablesRef}
+use Rattle.tables.specs.declared.TablesMut.{TablesMut}
+use Rattle.tables.specs.Lent.{tables_read, tables_held}
+use Rattle.tables.specs.Ready.{Ready, ReadyRead, ReadyHeld, Fitting}
 use Rattle.refusals.specs.Refusals.{fits_by}
 
 -- the 16-bit indices of a struct
@@ -63,6 +66,18 @@ module _ (c : Core) (r : ℕ) (words lens halves : List ℕ) (sides : List Bool)
           well = w;
         };
       }
+
+-- the same of tables that are lent with room for so many, to be read and to be changed
+pub ready_read : (c : Core) (t : TablesRef) → HasRoom c t.room → Indices c → well_formed (queue_of c (tables_read t)) ≡ true → ReadyRead c t
+ready_read c t e i w =
+    ready c t.room t.words.now t.lens.now t.halves.now t.sides.now
+    (room_of c t e) i w
+
+pub ready_held : (c : Core) (t : TablesMut) → HasRoom c t.room → Indices c → well_formed (queue_of c (tables_held t)) ≡ true → ReadyHeld c t
+ready_held c t e i w =
+    ready c t.room t.words.now t.lens.now t.halves.now t.sides.now
+    (record { most = e.most; enough = e.enough; words_of = t.words_of; lens_of = t.lens_of; halves_of = t.halves_of; sides_of = t.sides_of })
+    i w
 
 -- the size of a well-formed record, and its num_used
 pub sized : (q : Queue) → well_formed q ≡ true → (q.n ≤ 64) × (q.counts.used ≤ q.n)

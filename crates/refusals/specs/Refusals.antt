@@ -1,5 +1,5 @@
 -- The refusals of the calls case by case, where it is known whether the regions do.
-use Rattle.std.specs.Prelude.{◌≡◌, refl, Bool, true, false, not, ◌&&◌, ◌||◌, List, [], ◌∷◌, ℕ, ◌≤◌, ◌<◌, leb, length}
+use Rattle.std.specs.Prelude.{◌≡◌, refl, Bool, true, false, not, cond, ◌&&◌, ◌||◌, List, [], ◌∷◌, ℕ, ◌≤◌, ◌<◌, leb, length}
 use Rattle.std.proofs.Common.{sym, ◌∙◌, arith, le-leb, eq-eqb, ne_eqb}
 use Rattle.std.proofs.lemmas.Bool.{lt-leb}
 use Rattle.lists.specs.Pick.{Test, ◌when◌, first}
@@ -9,9 +9,13 @@ use Rattle.virtio.specs.Chain.{in_order}
 use Rattle.virtio.specs.Layout.{need_one, need_two, need_pool}
 use Rattle.rules.specs.Record.{Queue, is_open}
 use Rattle.rules.specs.WellFormed.{broken, well_formed, no_empty}
-use Rattle.rules.specs.Answer.{InvalidParam, QueueFull, EmptyBuffer, Busy}
+use Rattle.rules.specs.Answer as answer
+use Rattle.rules.specs.declared.Refusal.{Refusal}
+use Rattle.rules.specs.declared.Refusal.TheVariants.{EmptyBuffer, BadRecord, BadRegion}
+use Rattle.rules.specs.Refused.{refusal_number}
 use Rattle.rules.specs.Calls.{bad_list, full, step_tests, call_tests, add_tests}
 use Rattle.views.specs.declared.Core.{Core}
+use Rattle.refusals.specs.Told.{passed, failed}
 
 -- regions of these lengths do
 abbrev pub fits_by : Core → ℕ → ℕ → ℕ → Bool
@@ -54,13 +58,27 @@ module _ (q : Queue) (fit : Bool) where
   pub step_short : broken q ≡ 0 → fit ≡ false → 13 ≡ first (step_tests q fit)
   step_short e f = rw (unbroken q e, f)
 
+  -- b: what the code was told of the record
+  module _ (b : Bool) (w : b ≡ well_formed q) where
+    pub step_stops : (e : Refusal) → refusal_number e ≡ cond b 0 (refusal_number BadRecord) → refusal_number e ≡ first (step_tests q fit)
+    step_stops e n =
+        let f : (b ≡ false) × (refusal_number e ≡ refusal_number BadRecord) = failed b BadRecord e n in
+        f.1 ∙ sym (rw (sym w ∙ f.0) refl)
+
+    pub step_goes : (x : ℕ) → cond b 0 (refusal_number BadRecord) ≡ 0 → x ≡ cond fit 0 (refusal_number BadRegion) → x ≡ first (step_tests q fit)
+    step_goes x n e = e ∙ rw (sym w ∙ passed b BadRecord n) (by_test fit)
+      where
+        by_test : (f : Bool) → cond f 0 (refusal_number BadRegion) ≡ first ((answer.BadRegion when not f) ∷ [])
+        by_test true = refl
+        by_test false = refl
+
   -- what refuses a step refuses a call; where nothing does, an open call is left to ask for
   pub call_stops : (x : ℕ) → x ≡ first (step_tests q fit) → (x ≡ 0 → ⊥) → x ≡ first (call_tests q fit)
-  call_stops x e f = e ∙ sym (first_stops (step_tests q fit) ((Busy when is_open q.call) ∷ []) (λ z. f (e ∙ z)))
+  call_stops x e f = e ∙ sym (first_stops (step_tests q fit) ((answer.Busy when is_open q.call) ∷ []) (λ z. f (e ∙ z)))
 
-  call_asks : first (step_tests q fit) ≡ 0 → first (call_tests q fit) ≡ first ((Busy when is_open q.call) ∷ [])
+  call_asks : first (step_tests q fit) ≡ 0 → first (call_tests q fit) ≡ first ((answer.Busy when is_open q.call) ∷ [])
   call_asks e =
-      first_then (step_tests q fit) ((Busy when is_open q.call) ∷ []) (first_none (step_tests q fit) (omega arith) e)
+      first_then (step_tests q fit) ((answer.Busy when is_open q.call) ∷ []) (first_none (step_tests q fit) (omega arith) e)
 
   pub call_busy : first (step_tests q fit) ≡ 0 → is_open q.call ≡ true → 11 ≡ first (call_tests q fit)
   call_busy e o = sym (call_asks e ∙ rw o refl)
@@ -72,7 +90,7 @@ module _ (q : Queue) (fit : Bool) where
   module _ (bs : List Buffer) where
     abbrev own : List Test
     own =
-        (InvalidParam when bad_list bs) ∷ (QueueFull when full q (length bs)) ∷ (EmptyBuffer when not (no_empty bs)) ∷ []
+        (answer.InvalidParam when bad_list bs) ∷ (answer.QueueFull when full q (length bs)) ∷ (answer.EmptyBuffer when not (no_empty bs)) ∷ []
 
     pub add_stops : (x : ℕ) → x ≡ first (call_tests q fit) → (x ≡ 0 → ⊥) → x ≡ first (add_tests q fit bs)
     add_stops x e f = e ∙ sym (first_stops (call_tests q fit) own (λ z. f (e ∙ z)))
@@ -97,3 +115,11 @@ module _ (q : Queue) (fit : Bool) where
 
           pub add_told : full q (length bs) ≡ false → no_empty bs ≡ true → 0 ≡ first (add_tests q fit bs)
           add_told f z = sym (add_asks ∙ rw (ne_eqb (length bs) 0 s, o, f, z) refl)
+
+        -- by what is told of the last test
+        pub add_last : (o : in_order bs ≡ true) → full q (length bs) ≡ false → (x : ℕ) → x ≡ cond (no_empty bs) 0 (refusal_number EmptyBuffer) → x ≡ first (add_tests q fit bs)
+        add_last o f x e = e ∙ by_test (no_empty bs) refl
+          where
+            by_test : (b : Bool) → no_empty bs ≡ b → cond b 0 (refusal_number EmptyBuffer) ≡ first (add_tests q fit bs)
+            by_test true z = add_told o f z
+            by_test false z = add_empty o f z

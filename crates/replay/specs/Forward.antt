@@ -10,10 +10,10 @@ use native.Mathlib.Omega.{arith}
 use Rattle.lists.specs.Tests.{by_test, and_left, and_right, and_both, either}
 use Rattle.virtio.specs.declared.Buffer.{Buffer}
 use Rattle.rules.specs.Calls.{add, pop_used}
-use Rattle.text.specs.declared.Number.{Number}
-use Rattle.text.specs.declared.Entry.{Entry}
 use Rattle.text.specs.Words.{line_none, newline, comma, colon}
 use Rattle.text.specs.Text.{
+  Found,
+  FoundEntry,
   stands,
   none,
   read,
@@ -40,7 +40,7 @@ use Rattle.replay.specs.Laws.{stands_long}
 -- ---- numbers and lines
 
 -- a number that was read ends behind where it was read from
-abbrev Behind : ℕ → Number → Type 0
+abbrev Behind : ℕ → Found → Type 0
 Behind from r = r.ok ≡ true → from ≤ r.at
 
 digits_behind : (most : ℕ) (cs : List ℕ) (at v : ℕ) → Behind at (digits_in most cs at v)
@@ -67,7 +67,7 @@ number_behind : (most : ℕ) (cs : List ℕ) (at : ℕ) → Behind at (number_in
 unfolding number_in
 number_behind most [] at = λ e. absurd (false≢true e)
 number_behind most (c ∷ cs) at =
-    let many : Number = digits_in most (c ∷ cs) at 0 in
+    let many : Found = digits_in most (c ∷ cs) at 0 in
     either
     (Behind at)
     (eqb c 48)
@@ -84,13 +84,13 @@ Inside s from at = (from ≤ at) × (at ≤ length s)
 line_ends : (s : List ℕ) (from at : ℕ) → from ≤ at → stands newline s at ≡ true → Inside s (from + 1) (suc at)
 line_ends s from at h e = let l : 1 ≤ length s - at = stands_long newline s at e in (omega arith, omega arith)
 
-abbrev Read : List ℕ → ℕ → Number → Type 0
+abbrev Read : List ℕ → ℕ → Found → Type 0
 Read s from r = r.ok ≡ true → Inside s from r.at
 
 pub field_read : (key : List ℕ) (most : ℕ) (s : List ℕ) (at : ℕ) → Read s (at + length key + 1) (field key most s at)
 field_read key most s at =
-    let n : Number = number most s (at + length key) in
-    let P : Number → Type 0 = Read s (at + length key + 1) in
+    let n : Found = number most s (at + length key) in
+    let P : Found → Type 0 = Read s (at + length key + 1) in
     either
     P
     (stands key s at)
@@ -119,7 +119,7 @@ Told s from r = r.good ≡ true → Inside s from r.at
 
 entry_behind : (s : List ℕ) (at : ℕ) → (entry_at s at).ok ≡ true → at ≤ (entry_at s at).at
 entry_behind s at =
-    let a : Number = number (2 ^ 64 - 1) s at in
+    let a : Found = number (2 ^ 64 - 1) s at in
     either
     (Behind at)
     (a.ok && stands colon s a.at)
@@ -137,7 +137,7 @@ entries_told : (k : ℕ) (output : Bool) (s : List ℕ) (at : ℕ) (bs : List Bu
 unfolding entries
 entries_told zero output s at bs = λ e. absurd (false≢true e)
 entries_told (suc k) output s at bs =
-    let e : Entry = entry_at s at in
+    let e : FoundEntry = entry_at s at in
     let more : List Buffer = bs ++ (buffer_of output e ∷ []) in
     let P : Listed → Type 0 = Told s (at + 1) in
     either
@@ -246,8 +246,8 @@ module _ (s : List ℕ) (p : Play) where
   used_onward : Onward s p (used_block s p (p.at + 8))
   unfolding used_block
   used_onward =
-      let i : Number = field word_id (2 ^ 32 - 1) s (p.at + 8) in
-      let l : Number = field word_len (2 ^ 32 - 1) s i.at in
+      let i : Found = field word_id (2 ^ 32 - 1) s (p.at + 8) in
+      let l : Found = field word_len (2 ^ 32 - 1) s i.at in
       either
       (Onward s p)
       i.ok
@@ -269,7 +269,7 @@ module _ (s : List ℕ) (p : Play) where
   pop_onward : Onward s p (pop_block s p (p.at + 7))
   unfolding pop_block
   pop_onward =
-      let t : Number = field word_token (2 ^ 32 - 1) s (p.at + 7) in
+      let t : Found = field word_token (2 ^ 32 - 1) s (p.at + 7) in
       let i : Listed = side word_in false s t.at [] in
       let o : Listed = side word_out true s i.at i.buffers in
       let f : List Buffer → ℕ → Play = λ bs next. called p line_pop (pop_used p.queue p.memory t.value bs) next 4 in

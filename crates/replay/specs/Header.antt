@@ -1,5 +1,5 @@
 -- What a replay's header comes to, by what the code read of it; the memory that is lent, and the replay as new leaves it.
-use Rattle.std.specs.Prelude.{◌≡◌, Bool, true, false, cond, ◌&&◌, List, [], ◌∷◌, ◌++◌, ℕ, ◌≤◌, ◌<◌, eqb, length, take, replicate}
+use Rattle.std.specs.Prelude.{◌≡◌, Bool, true, false, cond, ◌&&◌, List, [], ◌∷◌, ◌++◌, ℕ, ◌≤◌, ◌<◌, eqb, length, take, replicate, Option, Some, None}
 use Rattle.std.proofs.Common.{sym, subst, ◌∙◌, arith, lt-ltb, le-ltb, length-take-le}
 use Rattle.std.proofs.Math.Path.{ap}
 use Rattle.std.proofs.lemmas.List.{length-replicate}
@@ -15,8 +15,13 @@ use Rattle.access.specs.Accesses.{memory}
 use Rattle.record.specs.declared.Made.{Made}
 use Rattle.record.specs.Asked.{made_of}
 use Rattle.text.specs.declared.Number.{Number}
-use Rattle.text.specs.Text.{field}
+use Rattle.text.specs.Text.{Found, read, field}
+use Rattle.text.specs.Laws.{cond_none}
+use Rattle.std.proofs.lemmas.Option.{cond_some}
+use Rattle.lists.specs.Tests.{and_left, and_right}
 use Rattle.print.specs.Print.{field_line, bad_line, Written}
+use Rattle.print.specs.Page.{Has}
+use Rattle.print.specs.declared.Page.{Page}
 use Rattle.replay.specs.Words.{word_size, word_indirect, word_event}
 use Rattle.replay.specs.Replay.{blocks, zeros, asked, opened, replayed, transcript}
 use Rattle.replay.specs.Plays.{Plays}
@@ -29,6 +34,9 @@ pub written_none : (before : List ℕ) → Written before before 0 []
 written_none before =
     let none : take (length before) [] ≡ [] = take-nil {A = ℕ} (length before) in
     record { count = sym (ap length none); bytes = sym (ap (sets before 0) none) }
+
+pub is_had : {before : List ℕ} (page : Page) {text said : List ℕ} → text ≡ said → Has before page said → Has before page text
+is_had {before = before} page e w = subst (λ (x : List ℕ). Has before page x) (sym e) w
 
 pub is_written : {before after : List ℕ} {at : ℕ} {text said : List ℕ} → text ≡ said → Written before after at said → Written before after at text
 is_written {before = before} {after = after} {at = at} e w = subst (λ (x : List ℕ). Written before after at x) (sym e) w
@@ -45,14 +53,28 @@ short s h = ap (λ b. cond b (bad_line 0) (replayed s)) (le-ltb 32768 (length s)
 
 -- ---- the three lines
 
+-- the size that the code read, if it is one that new takes
+abbrev pub told_sized : Found → Option Number
+told_sized n = cond (n.ok && size_ok n.value) (Some (record { value = n.value; at = n.at })) None
+
+pub sized_none : (n : Found) → told_sized n ≡ None → (n.ok && size_ok n.value) ≡ false
+sized_none n e = cond_none (n.ok && size_ok n.value) _ e
+
+pub sized_some : (n : Found) (x : Number) → told_sized n ≡ Some x → (read x.value x.at ≡ n) × (size_ok x.value ≡ true)
+sized_some n x e =
+    let h : ((n.ok && size_ok n.value) ≡ true) × (record { value = n.value; at = n.at } ≡ x) = cond_some _ _ x e in
+    let o : n.ok ≡ true = and_left n.ok (size_ok n.value) h.0 in
+    let same : n ≡ read x.value x.at = λ i. record { ok = o i; value = (h.1 i).value; at = (h.1 i).at } in
+    (sym same, subst (λ (y : Found). size_ok y.value ≡ true) same (and_right n.ok (size_ok n.value) h.0))
+
 module _ (s : List ℕ) where
-  abbrev good_size : Number → Bool
+  abbrev good_size : Found → Bool
   good_size n = n.ok && size_ok n.value
 
-  abbrev two : Number → Number → List ℕ
+  abbrev two : Found → Found → List ℕ
   two n i = field_line word_size n.value ++ field_line word_indirect i.value
 
-  abbrev played : Number → Number → Number → List ℕ
+  abbrev played : Found → Found → Found → List ℕ
   played n i e =
       (blocks
       (length s)
@@ -60,45 +82,45 @@ module _ (s : List ℕ) where
       (opened n.value (eqb i.value 1) (eqb e.value 1) e.at (two n i ++ field_line word_event e.value))
       ).said
 
-  abbrev event_then : Number → Number → Number → List ℕ
+  abbrev event_then : Found → Found → Found → List ℕ
   event_then n i e = cond e.ok (played n i e) (two n i ++ bad_line 3)
 
-  abbrev indirect_then : Number → Number → Number → List ℕ
+  abbrev indirect_then : Found → Found → Found → List ℕ
   indirect_then n i e = cond i.ok (event_then n i e) (field_line word_size n.value ++ bad_line 2)
 
-  abbrev size_then : Number → Number → Number → List ℕ
+  abbrev size_then : Found → Found → Found → List ℕ
   size_then n i e = cond (good_size n) (indirect_then n i e) (bad_line 1)
 
-  abbrev indirect_at : Number → Number
+  abbrev indirect_at : Found → Found
   indirect_at n = field word_indirect 1 s n.at
 
-  abbrev event_at : Number → Number
+  abbrev event_at : Found → Found
   event_at i = field word_event 1 s i.at
 
-  module _ (n : Number) (size : n ≡ field word_size 65535 s 0) where
+  module _ (n : Found) (size : n ≡ field word_size 65535 s 0) where
     reads_size : replayed s ≡ size_then n (indirect_at n) (event_at (indirect_at n))
     unfolding replayed
-    reads_size = ap (λ (x : Number). size_then x (indirect_at x) (event_at (indirect_at x))) (sym size)
+    reads_size = ap (λ (x : Found). size_then x (indirect_at x) (event_at (indirect_at x))) (sym size)
 
     pub no_size : good_size n ≡ false → replayed s ≡ bad_line 1
     no_size h = reads_size ∙ ap (λ b. cond b (indirect_then n (indirect_at n) (event_at (indirect_at n))) (bad_line 1)) h
 
-    module _ (fits : good_size n ≡ true) (i : Number) (mode : i ≡ indirect_at n) where
+    module _ (fits : good_size n ≡ true) (i : Found) (mode : i ≡ indirect_at n) where
       reads_indirect : replayed s ≡ indirect_then n i (event_at i)
       reads_indirect =
           reads_size
           ∙ ap (λ b. cond b (indirect_then n (indirect_at n) (event_at (indirect_at n))) (bad_line 1)) fits
-          ∙ ap (λ (x : Number). indirect_then n x (event_at x)) (sym mode)
+          ∙ ap (λ (x : Found). indirect_then n x (event_at x)) (sym mode)
 
       pub no_indirect_lem : i.ok ≡ false → replayed s ≡ field_line word_size n.value ++ bad_line 2
       no_indirect_lem h = reads_indirect ∙ ap (λ b. cond b (event_then n i (event_at i)) (field_line word_size n.value ++ bad_line 2)) h
 
-      module _ (good : i.ok ≡ true) (e : Number) (event : e ≡ event_at i) where
+      module _ (good : i.ok ≡ true) (e : Found) (event : e ≡ event_at i) where
         reads_event : replayed s ≡ event_then n i e
         reads_event =
             reads_indirect
             ∙ ap (λ b. cond b (event_then n i (event_at i)) (field_line word_size n.value ++ bad_line 2)) good
-            ∙ ap (λ (x : Number). event_then n i x) (sym event)
+            ∙ ap (λ (x : Found). event_then n i x) (sym event)
 
         pub no_event : e.ok ≡ false → replayed s ≡ two n i ++ bad_line 3
         no_event h = reads_event ∙ ap (λ b. cond b (played n i e) (two n i ++ bad_line 3)) h
@@ -142,7 +164,7 @@ module _ (room : ℕ) {l : List ℕ} (blank : l ≡ replicate room 0) {k need : 
 -- ---- new
 
 module _
-    (n : ℕ) (modes : Modes) (at said : ℕ) (text : List ℕ) (made : Made) {m l : Memory}
+    (n : ℕ) (modes : Modes) (at : ℕ) (text : List ℕ) (made : Made) {m l : Memory}
     (flexible : modes.legacy ≡ false)
     (cleared : l ≡ zeros modes.indirect n)
     (news : made_of made m ≡ rule.new (record { n = n; in_use = false; most = n; modes = modes; base_one = 0; base_two = 0; base_pool = 0 }) l)
@@ -163,12 +185,12 @@ module _
         (cleared i)
 
     pub opened_plays
-        : {before out : List ℕ}
-        → Written before out said text
+        : {before : List ℕ} {page : Page}
+        → Has before page text
         → Plays
         before
-        out
-        (record { queue = made.queue; size = n; at = at; line = 4; said = said; going = true })
+        page
+        (record { queue = made.queue; size = n; at = at; line = 4 })
         m
         (opened n modes.indirect modes.event_idx at text)
     opened_plays w = record {

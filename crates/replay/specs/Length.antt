@@ -16,8 +16,7 @@ use Rattle.rules.specs.WellFormed.{size_ok}
 use Rattle.rules.specs.New.{Ask, Made, new, new_refusal, made, not_made}
 use Rattle.rules.specs.Calls.{add, pop_used}
 use Rattle.record.specs.Fine.{size_small}
-use Rattle.text.specs.declared.Number.{Number}
-use Rattle.text.specs.Text.{stands, field, Listed, side}
+use Rattle.text.specs.Text.{Found, stands, field, Listed, side}
 use Rattle.print.specs.Words.{word_answer, word_value, word_steps, word_free, word_bad}
 use Rattle.print.specs.Print.{decimal_of, decimal, field_line, report, bad_line, Written}
 use Rattle.replay.specs.Words.{
@@ -154,8 +153,8 @@ module _ (s : List ℕ) (p : Play) (n : p.queue.n ≤ 64) where
   used_says : (at : ℕ) → Says p (used_block s p at)
   unfolding used_block
   used_says at =
-      let i : Number = field word_id (2 ^ 32 - 1) s at in
-      let l : Number = field word_len (2 ^ 32 - 1) s i.at in
+      let i : Found = field word_id (2 ^ 32 - 1) s at in
+      let l : Found = field word_len (2 ^ 32 - 1) s i.at in
       let gave : Play = gave_back p i.value l.value l.at in
       either
       (Says p)
@@ -168,7 +167,7 @@ module _ (s : List ℕ) (p : Play) (n : p.queue.n ≤ 64) where
   pop_says : (at : ℕ) → Says p (pop_block s p at)
   unfolding pop_block
   pop_says at =
-      let t : Number = field word_token (2 ^ 32 - 1) s at in
+      let t : Found = field word_token (2 ^ 32 - 1) s at in
       let i : Listed = side word_in false s t.at [] in
       let o : Listed = side word_out true s i.at i.buffers in
       let r : List Buffer → Outcome = λ bs. pop_used p.queue p.memory t.value bs in
@@ -255,9 +254,9 @@ opened_size n indirect event at said h =
 replayed_most : (s : List ℕ) → length s ≤ 32768 → length (replayed s) ≤ 131072
 unfolding replayed
 replayed_most s h =
-    let n : Number = field word_size 65535 s 0 in
-    let i : Number = field word_indirect 1 s n.at in
-    let e : Number = field word_event 1 s i.at in
+    let n : Found = field word_size 65535 s 0 in
+    let i : Found = field word_indirect 1 s n.at in
+    let e : Found = field word_event 1 s i.at in
     let one : List ℕ = field_line word_size n.value in
     let two : List ℕ = one ++ field_line word_indirect i.value in
     let three : List ℕ = two ++ field_line word_event e.value in

@@ -9,7 +9,6 @@ use Rattle.rules.specs.Answer.{Outcome}
 use Rattle.rules.specs.Record.{Queue}
 use Rattle.rules.specs.New.{Ask, Made, new}
 use Rattle.rules.specs.Calls.{add, pop_used}
-use Rattle.text.specs.declared.Number.{Number}
 use Rattle.replay.specs.Words.{
   word_size,
   word_indirect,
@@ -23,7 +22,7 @@ use Rattle.replay.specs.Words.{
   word_len,
   word_token,
 }
-use Rattle.text.specs.Text.{stands, field, Listed, side}
+use Rattle.text.specs.Text.{Found, stands, field, Listed, side}
 use Rattle.print.specs.Print.{field_line, report, bad_line}
 
 -- A replay under way: the queue, its memory and size, where the text is read, the number of the line there, what was printed, and whether it goes on.
@@ -93,13 +92,13 @@ module _ (s : List ℕ) (p : Play) where
 
   unfoldable pub used_block : ℕ → Play
   used_block at =
-      let i : Number = field word_id (2 ^ 32 - 1) s at in
-      let l : Number = field word_len (2 ^ 32 - 1) s i.at in
+      let i : Found = field word_id (2 ^ 32 - 1) s at in
+      let l : Found = field word_len (2 ^ 32 - 1) s i.at in
       cond i.ok (cond l.ok (gave_back p i.value l.value l.at) (wrong p 2)) (wrong p 1)
 
   unfoldable pub pop_block : ℕ → Play
   pop_block at =
-      let t : Number = field word_token (2 ^ 32 - 1) s at in
+      let t : Found = field word_token (2 ^ 32 - 1) s at in
       let i : Listed = side word_in false s t.at [] in
       let o : Listed = side word_out true s i.at i.buffers in
       cond
@@ -156,9 +155,9 @@ opened n indirect event at said =
 
 unfoldable pub replayed : List ℕ → List ℕ
 replayed s =
-    let n : Number = field word_size 65535 s 0 in
-    let i : Number = field word_indirect 1 s n.at in
-    let e : Number = field word_event 1 s i.at in
+    let n : Found = field word_size 65535 s 0 in
+    let i : Found = field word_indirect 1 s n.at in
+    let e : Found = field word_event 1 s i.at in
     let one : List ℕ = field_line word_size n.value in
     let two : List ℕ = one ++ field_line word_indirect i.value in
     let three : List ℕ = two ++ field_line word_event e.value in

@@ -2,7 +2,7 @@
 // what that is, as a function of the text.
 #![tactic(auto)]
 
-ghost use Rattle.std.specs.Prelude.{◌≡◌, true, false, cond, ◌&&◌, List, ℕ, ◌+◌, ◌≤◌, ◌^◌, length, replicate};
+ghost use Rattle.std.specs.Prelude.{◌≡◌, [], true, false, cond, ◌&&◌, List, ℕ, ◌+◌, ◌≤◌, ◌^◌, length, replicate};
 ghost use Rattle.virtio.specs.Layout.{need_two, need_pool};
 ghost use Rattle.virtio.specs.Memory.{Memory};
 ghost use Rattle.rules.specs.Record.{free_count};
@@ -10,120 +10,78 @@ ghost use Rattle.rules.specs.WellFormed.{size_ok};
 ghost use Rattle.access.specs.Accesses.{memory};
 ghost use Rattle.record.specs.Abs.{abs};
 ghost use Rattle.record.specs.Asked.{answer_of};
-ghost use Rattle.text.specs.Held.{Rooms};
 ghost use Rattle.print.specs.Print.{Written};
-ghost use Rattle.replay.specs.Replay.{Play, wrong as wrong_is, called as called_is, completed as completed_is};
+ghost use Rattle.print.specs.Page.{Has, SameLoan};
+ghost use Rattle.print.specs.declared.Page.{Page};
+ghost use Rattle.text.specs.Text.{field as field_is};
+ghost use Rattle.replay.specs.Words.{word_size};
+ghost use Rattle.replay.specs.Header.{told_sized};
+ghost use Rattle.replay.specs.Replay.{Play, called as called_is, completed as completed_is};
 ghost use Rattle.replay.specs.Replay.{add_block, used_block, pop_block, block as block_is, blocks as blocks_is};
 ghost use Rattle.replay.specs.Replay.{zeros, opened, replayed as replayed_is, transcript};
-ghost use Rattle.replay.specs.Plays.{Plays, Sized};
+ghost use Rattle.replay.specs.Plays.{Plays, Sized, LeadsTo, Short};
 ghost use Rattle.replay.specs.Sides.{BothRead};
 
-use fields::{load16, store16, store32};
+use fields::{load, store};
 use heads::size_ok;
 use indices::after;
 use layout::{need_one, need_pool, need_two};
-use print::{put_field, put_report};
+use print::Page;
 use record::{Answer, Ask, Queue};
 use rules::Modes;
-use text::{Number, field, side_at, stands};
+use text::{MOST_BUFFERS, Number, Side, field, side_at, stands};
+use virtio::Buffer;
 
-// A replay under way: the queue and its size, where the text is read, the number of the line there, how much was printed, and whether it goes on.
+// A buffer that was not read.
+const NO_BUFFER: Buffer = Buffer {
+    addr: 0,
+    len: 0,
+    output: false,
+};
+
+// A replay under way: the queue and its size, where the text is read, and the number of the line there.
 #[derive(Clone, Copy)]
 pub struct Played {
     pub queue: Queue,
     pub size: u16,
     pub at: usize,
     pub line: usize,
-    pub said: usize,
-    pub going: bool,
 }
 
-// It ends at a wrong line, so many lines on.
-fn wrong(p: Played, k: usize, out: &mut [u8]) -> Played
-    requires { (p.line ≤ 2 ^ 20) × (k ≤ 4) }
-    ensures by_index { (before : List ℕ) (m : Memory) (q : Play)
-        → Plays before out.old p m q
-        → Plays before out.new result m (wrong_is q k) }
-    ensures size_value { (result.size ≡ p.size) × (result.line ≤ p.line + 4) }
-{
-    let queue = p.queue;
-    let line = p.line + k;
-    Played {
-        queue,
-        size: p.size,
-        at: p.at,
-        line: p.line,
-        said: put_field(out, p.said, b"bad=", line as u64),
-        going: false,
-    }
-}
-
+// The free descriptors, as the report prints them.
 fn free_of(q: Queue) -> u16
     ensures { result ≡ free_count (abs q) }
 {
-    let core = q.core;
-    if core.num_used < core.n {
-        core.n - core.num_used
-    } else {
-        0
-    }
+    q.core.n.saturating_sub(q.core.num_used)
 }
 
 // It goes on behind a block of k lines, with what a call came to.
-fn called(p: Played, op: &[u8], r: Answer, at: usize, k: usize, out: &mut [u8]) -> Played
+fn called(p: Played, op: &[u8], r: Answer, at: usize, k: usize, page: &mut Page) -> Played
     requires { (p.line ≤ 2 ^ 20) × (k ≤ 4) }
     ensures by_index { (before : List ℕ) (l m : Memory) (q : Play)
-        → Plays before out.old p l q
-        → Plays before out.new result m (called_is q op.now (answer_of r m) at k) }
+        → Plays before page.old p l q
+        → Plays before page.new result m (called_is q op.now (answer_of r m) at k) }
     ensures size_value { (result.size ≡ p.size) × (result.line ≤ p.line + 4) }
+    ensures loan { SameLoan page.old page.new }
 {
-    let queue = r.queue;
+    page.report(op, r.number(), r.value(), r.steps, free_of(r.queue));
     Played {
-        queue,
-        size: p.size,
+        queue: r.queue,
         at,
         line: p.line + k,
-        said: put_report(out, p.said, op, r.answer, r.value, r.steps, free_of(queue)),
-        going: true,
+        ..p
     }
 }
 
-// The two lists of an add or a pop: which of their lines is wrong, 0 for none; how many buffers there are, and where the next line starts.
-#[derive(Clone, Copy)]
-pub struct Both {
-    pub bad: usize,
-    pub count: usize,
-    pub at: usize,
-}
-
-fn both_at(src: &[u8], at: usize, addrs: &mut [u64], sizes: &mut [u32], outs: &mut [u8]) -> Both
-    requires { Rooms addrs.old sizes.old outs.old }
-    ensures { BothRead result addrs.new sizes.new outs.new src.now at }
+// The two lists of an add or a pop: how many buffers there are and where the next line starts, or which of the two lines is wrong.
+fn both_at(src: &[u8], at: usize, list: &mut [Buffer; MOST_BUFFERS]) -> Result<Side, usize>
+    ensures { BothRead result list.new src.now at }
 {
-    let i = side_at(src, at, b"in=", 0, 0, addrs, sizes, outs);
-    if !i.ok {
-        return Both {
-            bad: 1,
-            count: 0,
-            at: 0,
-        };
-    }
-    let o = side_at(src, i.at, b"out=", 1, i.count, addrs, sizes, outs);
-    if !o.ok {
-        return Both {
-            bad: 2,
-            count: 0,
-            at: 0,
-        };
-    }
-    Both {
-        bad: 0,
-        count: o.count,
-        at: o.at,
-    }
+    let ins = side_at(src, at, b"in=", false, 0, list).ok_or(1usize)?;
+    side_at(src, ins.at, b"out=", true, ins.count, list).ok_or(2)
 }
 
-// An add: its two lists, and the call.
+// An add: its two lists, and the call; or how many lines on the wrong one is.
 fn add_block(
     src: &[u8],
     p: Played,
@@ -131,28 +89,22 @@ fn add_block(
     one: &mut [u8],
     two: &[u8],
     pool: &mut [u8],
-    out: &mut [u8],
-) -> Played
+    page: &mut Page,
+) -> Result<Played, usize>
     requires { p.line ≤ 2 ^ 20 }
     ensures by_index { (before : List ℕ) (q : Play)
-        → Plays before out.old p (memory one.old two.now pool.old) q
-        → Plays before out.new result (memory one.new two.now pool.new) (add_block src.now q at) }
-    ensures size_value { (result.size ≡ p.size) × (result.line ≤ p.line + 4) }
+        → Plays before page.old p (memory one.old two.now pool.old) q
+        → LeadsTo before page.new p (memory one.new two.now pool.new) q result (add_block src.now q at) }
+    ensures size_value { Short p result }
+    ensures loan { SameLoan page.old page.new }
 {
-    let mut addrs = [0u64; 130];
-    let mut sizes = [0u32; 130];
-    let mut outs = [0u8; 130];
-    let b = both_at(src, at, &mut addrs, &mut sizes, &mut outs);
-    if b.bad != 0 {
-        return wrong(p, b.bad, out);
-    }
-    let queue = p.queue;
-    let k = b.count;
-    let r = queue.add(&addrs[..k], &sizes[..k], &outs[..k], one, two, pool);
-    called(p, b"op=add\n", r, b.at, 3, out)
+    let mut list = [NO_BUFFER; MOST_BUFFERS];
+    let both = both_at(src, at, &mut list)?;
+    let r = p.queue.add(&list[..both.count], one, two, pool);
+    Ok(called(p, b"op=add\n", r, both.at, 3, page))
 }
 
-// A pop: its token and two lists, and the call.
+// A pop: its token and two lists, and the call; or how many lines on the wrong one is.
 fn pop_block(
     src: &[u8],
     p: Played,
@@ -160,30 +112,21 @@ fn pop_block(
     one: &mut [u8],
     two: &[u8],
     pool: &mut [u8],
-    out: &mut [u8],
-) -> Played
+    page: &mut Page,
+) -> Result<Played, usize>
     requires { p.line ≤ 2 ^ 20 }
     ensures by_index { (before : List ℕ) (q : Play)
-        → Plays before out.old p (memory one.old two.now pool.old) q
-        → Plays before out.new result (memory one.new two.now pool.new) (pop_block src.now q at) }
-    ensures size_value { (result.size ≡ p.size) × (result.line ≤ p.line + 4) }
+        → Plays before page.old p (memory one.old two.now pool.old) q
+        → LeadsTo before page.new p (memory one.new two.now pool.new) q result (pop_block src.now q at) }
+    ensures size_value { Short p result }
+    ensures loan { SameLoan page.old page.new }
 {
-    let t = field(src, at, b"token=", 4294967295);
-    if !t.ok {
-        return wrong(p, 1, out);
-    }
-    let mut addrs = [0u64; 130];
-    let mut sizes = [0u32; 130];
-    let mut outs = [0u8; 130];
-    let b = both_at(src, t.at, &mut addrs, &mut sizes, &mut outs);
-    if b.bad != 0 {
-        return wrong(p, 1 + b.bad, out);
-    }
-    let queue = p.queue;
-    let k = b.count;
-    let token = t.value as u32;
-    let r = queue.pop_used(token, &addrs[..k], &sizes[..k], &outs[..k], one, two, pool);
-    called(p, b"op=pop\n", r, b.at, 4, out)
+    let token = field(src, at, b"token=", u64::from(u32::MAX)).ok_or(1usize)?;
+    let mut list = [NO_BUFFER; MOST_BUFFERS];
+    let both = both_at(src, token.at, &mut list).map_err(|line| 1 + line)?;
+    let id = token.value as u32;
+    let r = p.queue.pop_used(id, &list[..both.count], one, two, pool);
+    Ok(called(p, b"op=pop\n", r, both.at, 4, page))
 }
 
 // The device gives back an element: id and length at used idx, and then idx + 1.
@@ -191,116 +134,97 @@ fn complete(n: u16, two: &mut [u8], id: u32, len: u32)
     requires { (1 ≤ n) × (n ≤ 64) × (length two.old ≡ need_two false n) }
     ensures { (one pool : List ℕ) → memory one two.new pool ≡ completed_is n (memory one two.old pool) id len }
 {
-    let idx = load16(two, 2);
+    let idx: u16 = load(two, 2);
     let at = 4 + 8 * ((idx % n) as usize);
-    store32(two, at, id);
-    store32(two, at + 4, len);
-    store16(two, 2, after(idx));
+    store(two, at, id);
+    store(two, at + 4, len);
+    store(two, 2, after(idx));
 }
 
-fn used_block(src: &[u8], p: Played, at: usize, two: &mut [u8], out: &mut [u8]) -> Played
+// What the device gives back: an id and a length; or how many lines on the wrong one is.
+fn used_block(src: &[u8], p: Played, at: usize, two: &mut [u8]) -> Result<Played, usize>
     requires line_bound { p.line ≤ 2 ^ 20 }
     requires sized { Sized p two.old }
-    ensures by_index { (before one pool : List ℕ) (q : Play)
-        → Plays before out.old p (memory one two.old pool) q
-        → Plays before out.new result (memory one two.new pool) (used_block src.now q at) }
-    ensures size_value { (result.size ≡ p.size) × (result.line ≤ p.line + 4) }
+    ensures by_index { (before one pool : List ℕ) (page : Page) (q : Play)
+        → Plays before page p (memory one two.old pool) q
+        → LeadsTo before page p (memory one two.new pool) q result (used_block src.now q at) }
+    ensures size_value { Short p result }
 {
-    let i = field(src, at, b"id=", 4294967295);
-    if !i.ok {
-        return wrong(p, 1, out);
-    }
-    let l = field(src, i.at, b"len=", 4294967295);
-    if !l.ok {
-        return wrong(p, 2, out);
-    }
-    complete(p.size, two, i.value as u32, l.value as u32);
-    let queue = p.queue;
-    Played {
-        queue,
-        size: p.size,
-        at: l.at,
+    let id = field(src, at, b"id=", u64::from(u32::MAX)).ok_or(1usize)?;
+    let len = field(src, id.at, b"len=", u64::from(u32::MAX)).ok_or(2usize)?;
+    complete(p.size, two, id.value as u32, len.value as u32);
+    Ok(Played {
+        at: len.at,
         line: p.line + 3,
-        said: p.said,
-        going: true,
-    }
+        ..p
+    })
 }
 
+// A block, by its first line; or how many lines on the wrong one is.
 fn block(
     src: &[u8],
     p: Played,
     one: &mut [u8],
     two: &mut [u8],
     pool: &mut [u8],
-    out: &mut [u8],
-) -> Played
+    page: &mut Page,
+) -> Result<Played, usize>
     requires line_bound { p.line ≤ 2 ^ 20 }
     requires sized { Sized p two.old }
     ensures by_index { (before : List ℕ) (q : Play)
-        → Plays before out.old p (memory one.old two.old pool.old) q
-        → Plays before out.new result (memory one.new two.new pool.new) (block_is src.now q) }
-    ensures size_value { (result.size ≡ p.size) × (result.line ≤ p.line + 4) }
+        → Plays before page.old p (memory one.old two.old pool.old) q
+        → LeadsTo before page.new p (memory one.new two.new pool.new) q result (block_is src.now q) }
+    ensures size_value { Short p result }
+    ensures loan { SameLoan page.old page.new }
 {
     if stands(src, p.at, b"op=add\n") {
-        return add_block(src, p, p.at + 7, one, two, pool, out);
+        return add_block(src, p, p.at + 7, one, two, pool, page);
     }
     if stands(src, p.at, b"op=used\n") {
-        return used_block(src, p, p.at + 8, two, out);
+        return used_block(src, p, p.at + 8, two);
     }
     if stands(src, p.at, b"op=pop\n") {
-        return pop_block(src, p, p.at + 7, one, two, pool, out);
+        return pop_block(src, p, p.at + 7, one, two, pool, page);
     }
-    wrong(p, 0, out)
+    Err(0)
 }
 
-// Blocks until the text ends or a line is wrong.
-fn blocks(
+// Blocks until the text ends or a line is wrong; answers how much was printed by then. No text has more blocks than bytes.
+fn all_blocks(
     src: &[u8],
     start: Played,
     one: &mut [u8],
     two: &mut [u8],
     pool: &mut [u8],
-    out: &mut [u8],
-) -> Played
+    page: &mut Page,
+)
     requires src_len_bound { (length src.now ≤ 32768) × (start.line ≤ 4) }
     requires sized { Sized start two.old }
-    ensures { (before : List ℕ) (q : Play)
-        → Plays before out.old start (memory one.old two.old pool.old) q
-        → Plays before out.new result (memory one.new two.new pool.new)
-        (blocks_is (length src.now) src.now q) }
+    ensures wrote { (before : List ℕ) (q : Play)
+        → Plays before page.old start (memory one.old two.old pool.old) q
+        → Has before page.new (blocks_is (length src.now) src.now q).said }
+    ensures loan { SameLoan page.old page.new }
 {
     let mut p = start;
-    let mut left = src.len();
-    while 0 < left {
-        if !p.going {
-            break;
-        }
+    for _turn in 0..src.len() {
         if src.len() <= p.at {
             break;
         }
-        p = block(src, p, one, two, pool, out);
-        left -= 1;
+        match block(src, p, one, two, pool, page) {
+            Ok(next) => p = next,
+            Err(k) => {
+                page.field(b"bad=", (p.line + k) as u64);
+                return;
+            }
+        }
     }
-    p
 }
 
-// Zeros are made by functions of their own, so that no proof computes with so many.
-fn one_room() -> [u8; 1158]
-    ensures { result ≡ replicate 1158 0 }
+// Zeros are made by a function of their own, so that no proof computes with so many.
+fn room<const N: usize>() -> [u8; N]
+    ensures { result ≡ replicate N 0 }
 {
-    [0; 1158]
-}
-
-fn two_room() -> [u8; 518]
-    ensures { result ≡ replicate 518 0 }
-{
-    [0; 518]
-}
-
-fn pool_room() -> [u8; 65536]
-    ensures { result ≡ replicate 65536 0 }
-{
-    [0; 65536]
+    [0; N]
 }
 
 // Makes the queue, and runs the blocks that follow the header.
@@ -309,18 +233,18 @@ fn run(
     n: u16,
     modes: Modes,
     at: usize,
-    said: usize,
     one: &mut [u8],
     two: &mut [u8],
     pool: &mut [u8],
-    out: &mut [u8],
-) -> usize
+    page: &mut Page,
+)
     requires n_value { (size_ok n ≡ true) × (modes.legacy ≡ false) × (length src.now ≤ 32768) }
     requires pool_value { memory one.old two.old pool.old ≡ zeros modes.indirect n }
-    ensures { (before text : List ℕ)
-        → Written before out.old said text
-        → Written before out.new result (blocks_is (length src.now) src.now
+    ensures wrote { (before text : List ℕ)
+        → Has before page.old text
+        → Has before page.new (blocks_is (length src.now) src.now
         (opened n modes.indirect modes.event_idx at text)).said }
+    ensures loan { SameLoan page.old page.new }
 {
     let ask = Ask {
         n: n as u32,
@@ -331,18 +255,13 @@ fn run(
         base_two: 0,
         base_pool: 0,
     };
-    let made = Queue::new(ask, one, two, pool);
-    let queue = made.queue;
     let start = Played {
-        queue,
+        queue: Queue::new(ask, one, two, pool).queue,
         size: n,
         at,
         line: 4,
-        said,
-        going: true,
     };
-    let end = blocks(src, start, one, two, pool, out);
-    end.said
+    all_blocks(src, start, one, two, pool, page);
 }
 
 // How many bytes of pool the modes need.
@@ -353,77 +272,85 @@ fn pool_need(indirect: bool, n: u16) -> usize
 }
 
 // Lends the memory that the layout needs.
-fn lent(src: &[u8], n: u16, modes: Modes, at: usize, said: usize, out: &mut [u8]) -> usize
+fn lent(src: &[u8], n: u16, modes: Modes, at: usize, page: &mut Page)
     requires { (size_ok n ≡ true) × (modes.legacy ≡ false) × (length src.now ≤ 32768) }
-    ensures { (before text : List ℕ)
-        → Written before out.old said text
-        → Written before out.new result (blocks_is (length src.now) src.now
+    ensures wrote { (before text : List ℕ)
+        → Has before page.old text
+        → Has before page.new (blocks_is (length src.now) src.now
         (opened n modes.indirect modes.event_idx at text)).said }
+    ensures loan { SameLoan page.old page.new }
 {
-    let mut one = one_room();
-    let mut two = two_room();
-    let mut pool = pool_room();
-    let a = need_one(false, n);
-    let b = need_two(false, n);
-    let c = pool_need(modes.indirect, n);
+    let mut one = room::<1158>();
+    let mut two = room::<518>();
+    let mut pool = room::<65536>();
+    let one_len = need_one(false, n);
+    let two_len = need_two(false, n);
+    let pool_len = pool_need(modes.indirect, n);
     run(
         src,
         n,
         modes,
         at,
-        said,
-        &mut one[..a],
-        &mut two[..b],
-        &mut pool[..c],
-        out,
-    )
+        &mut one[..one_len],
+        &mut two[..two_len],
+        &mut pool[..pool_len],
+        page,
+    );
 }
 
-// Whether a size was read that new takes.
-fn good_size(n: Number) -> bool
-    requires { n.value ≤ 65535 }
-    ensures { result ≡ (n.ok && size_ok n.value) }
+// The size in the header's first line, if it is one that new takes.
+fn size_at(src: &[u8]) -> Option<Number>
+    ensures { result ≡ told_sized (field_is word_size 65535 src.now 0) }
 {
-    if !n.ok {
-        return false;
+    let size = field(src, 0, b"size=", u64::from(u16::MAX))?;
+    if size_ok(size.value as u16) {
+        Some(size)
+    } else {
+        None
     }
-    size_ok(n.value as u16)
 }
 
 // The header, and then the blocks.
-fn replayed(src: &[u8], out: &mut [u8]) -> usize
+fn replayed(src: &[u8], page: &mut Page)
     requires { length src.now ≤ 32768 }
-    ensures { Written out.old out.new result (replayed_is src.now) }
+    ensures wrote { (before : List ℕ) → Has before page.old [] → Has before page.new (replayed_is src.now) }
+    ensures loan { SameLoan page.old page.new }
 {
-    let n = field(src, 0, b"size=", 65535);
-    if !good_size(n) {
-        return put_field(out, 0, b"bad=", 1);
-    }
-    let mut said = put_field(out, 0, b"size=", n.value);
-    let i = field(src, n.at, b"indirect=", 1);
-    if !i.ok {
-        return put_field(out, said, b"bad=", 2);
-    }
-    said = put_field(out, said, b"indirect=", i.value);
-    let e = field(src, i.at, b"event=", 1);
-    if !e.ok {
-        return put_field(out, said, b"bad=", 3);
-    }
-    said = put_field(out, said, b"event=", e.value);
+    let Some(n) = size_at(src) else {
+        page.field(b"bad=", 1);
+        return;
+    };
+    page.field(b"size=", n.value);
+    let Some(i) = field(src, n.at, b"indirect=", 1) else {
+        page.field(b"bad=", 2);
+        return;
+    };
+    page.field(b"indirect=", i.value);
+    let Some(e) = field(src, i.at, b"event=", 1) else {
+        page.field(b"bad=", 3);
+        return;
+    };
+    page.field(b"event=", e.value);
     let modes = Modes {
         indirect: i.value == 1,
         event_idx: e.value == 1,
         legacy: false,
     };
-    lent(src, n.value as u16, modes, e.at, said, out)
+    lent(src, n.value as u16, modes, e.at, page);
 }
 
 // Reads a replay and writes what it prints, as far as there is room; answers how many bytes that is.
 pub fn replay(src: &[u8], out: &mut [u8]) -> usize
     ensures { Written out.old out.new result (transcript src.now) }
 {
+    let mut page = Page {
+        bytes: out,
+        said: 0,
+    };
     if 32768 < src.len() {
-        return put_field(out, 0, b"bad=", 0);
+        page.field(b"bad=", 0);
+        return page.said;
     }
-    replayed(src, out)
+    replayed(src, &mut page);
+    page.said
 }

@@ -1,4 +1,5 @@
 -- What a call answers: document 01's number ("When the queue says no"; 0 is yes), the value, the loads and stores made, the record and the memory.
+-- Refused has the code's type of a refusal, whose numbers are these.
 use Rattle.std.specs.Prelude.{cond, ℕ, eqb}
 use Rattle.virtio.specs.Memory.{Memory}
 use Rattle.rules.specs.Record.{Queue}

@@ -3,7 +3,9 @@
 --   WellFormed  when it is well formed: ten clauses, the first broken one
 --   Meaning     the same in plain words
 --   Answer      the numbers of "When the queue says no", and what a call answers
+--   Refused     the code's type of a refusal, by number
 --   Step        one access of the open call, and the record's reaction to it
+--   Refused     the refusals of the code as numbers
 --   Calls       refusals, openings, runs, whole calls, calls of a single step
 --   New         the call new
 --   Owning      the owning queue
@@ -21,6 +23,7 @@ pub mod Record
 pub mod WellFormed
 pub mod Meaning
 pub mod Answer
+pub mod Refused
 pub mod Step
 pub mod Calls
 pub mod New

@@ -1,12 +1,11 @@
 -- The owning queue (document 01, part 4, and "Owning" in "When the queue says no"): a queue all of whose buffers lie in one lent store, buffer i
 -- under token i. Its record, when that is well formed, and its calls.
-use Rattle.std.specs.Prelude.{Bool, true, false, not, cond, ◌&&◌, ◌||◌, List, [], ◌∷◌, ℕ, zero, suc, ◌+◌, ◌*◌, ◌%◌, ltb, leb, eqb, length, replicate, take, drop}
+use Rattle.std.specs.Prelude.{Option, None, Some, Bool, true, false, not, cond, ◌&&◌, ◌||◌, List, [], ◌∷◌, ℕ, zero, suc, ◌+◌, ◌*◌, ◌%◌, ltb, leb, eqb, length, replicate, take, drop}
 use Rattle.std.proofs.lemmas.List.Edits.{sets}
 use Rattle.lists.specs.Pick.{Test, ◌when◌, first, every, rising, same}
 use Rattle.virtio.specs.declared.Buffer.{Buffer}
 use Rattle.virtio.specs.Memory.{Memory, used_idx, used_id, spot, load_at}
 use Rattle.rules.specs.declared.Held.{Held}
-use Rattle.rules.specs.declared.Held.TheVariants.{Nothing, Holds}
 use Rattle.rules.specs.Record.{Queue, outstanding, free_list, buffers_of, is_open}
 use Rattle.rules.specs.WellFormed.{well_formed, base_ok, broken}
 use Rattle.rules.specs.Answer.{Outcome, InvalidParam, WrongToken, NotOutstanding, OverLength, Busy, BadRecord, BadRegion}
@@ -14,12 +13,16 @@ use Rattle.rules.specs.Step.{token_of}
 use Rattle.rules.specs.Calls.{fits, same_list, add, pop_used, should_notify, set_dev_notify}
 use Rattle.rules.specs.New.{lends}
 
+-- a buffer that is held: its token, and so many bytes
+abbrev pub holds : ℕ → ℕ → Option Held
+holds t l = Some (record { token = t; len = l })
+
 -- The record: the queue, the store's address, the size of a buffer, and what the caller holds.
 pub record Owning : Type 0 where
   pub queue : Queue
   pub base : ℕ
   pub size : ℕ
-  pub held : Held
+  pub held : Option Held
 
 -- The part of the store that a call hands back: none, or so many bytes from an offset on; and its bytes.
 pub data View : Type 0 where
@@ -31,9 +34,9 @@ shown no_view s = []
 shown (part from count) s = take count (drop from s)
 
 -- the part that the held bytes are, where a buffer has this size: the first of their token's buffer
-abbrev pub held_part : Held → ℕ → View
-held_part Nothing size = no_view
-held_part (Holds t l) size = part (t * size) l
+abbrev pub held_part : Option Held → ℕ → View
+held_part None size = no_view
+held_part (Some h) size = part (h.token * size) h.len
 
 pub record Owned : Type 0 where
   pub answer : ℕ
@@ -52,9 +55,9 @@ own_buffer base size i = record { addr = base + i * size; len = size; output = t
 abbrev pub size_allowed : ℕ → Bool
 size_allowed size = leb 1 size && leb size 1024
 
-abbrev pub holds_none : Held → Bool
-holds_none Nothing = true
-holds_none (Holds t l) = false
+abbrev pub holds_none : Option Held → Bool
+holds_none None = true
+holds_none (Some h) = false
 
 module _ (o : Owning) where
   abbrev pub own_list : ℕ → List Buffer
@@ -66,12 +69,12 @@ module _ (o : Owning) where
       every (λ h. not (outstanding o.queue h) || same_list (buffers_of o.queue h) (own_list h)) o.queue.n 0
 
   -- all are outstanding but the held one, whose length is within the size
-  abbrev pub held_clause : Held → Bool
-  held_clause Nothing = every (outstanding o.queue) o.queue.n 0
-  held_clause (Holds t l) =
-      ltb t o.queue.n
-      && (not (outstanding o.queue t)
-      && (every (λ h. eqb h t || outstanding o.queue h) o.queue.n 0 && leb l o.size))
+  abbrev pub held_clause : Option Held → Bool
+  held_clause None = every (outstanding o.queue) o.queue.n 0
+  held_clause (Some b) =
+      ltb b.token o.queue.n
+      && (not (outstanding o.queue b.token)
+      && (every (λ h. eqb h b.token || outstanding o.queue h) o.queue.n 0 && leb b.len o.size))
 
   -- base and size are allowed
   abbrev pub placed_clause : Bool
@@ -120,7 +123,7 @@ own_made q base size m s =
       answer = 0;
       value = 0;
       view = no_view;
-      owning = record { queue = o.queue; base = base; size = size; held = Nothing };
+      owning = record { queue = o.queue; base = base; size = size; held = None };
       memory = o.memory;
       store = sets s 0 (replicate (q.n * size) 0);
     }
@@ -130,7 +133,7 @@ own_not_made number q m s = record {
   answer = number;
   value = 0;
   view = no_view;
-  owning = record { queue = q; base = 0; size = 0; held = Nothing };
+  owning = record { queue = q; base = 0; size = 0; held = None };
   memory = m;
   store = s;
 }
@@ -166,7 +169,7 @@ module _ (o : Owning) where
   release_refusal m s = first (release_tests (own_fits m s))
 
   -- an answer without a view
-  abbrev pub plainly : ℕ → ℕ → Queue → Held → Memory → List ℕ → Owned
+  abbrev pub plainly : ℕ → ℕ → Queue → Option Held → Memory → List ℕ → Owned
   plainly number v q h m s = record {
     answer = number;
     value = v;
@@ -185,7 +188,7 @@ module _ (o : Owning) where
     answer = 0;
     value = t;
     view = part (t * o.size) p.value;
-    owning = record { queue = p.queue; base = o.base; size = o.size; held = Holds t p.value };
+    owning = record { queue = p.queue; base = o.base; size = o.size; held = holds t p.value };
     memory = p.memory;
     store = s;
   }
@@ -199,7 +202,7 @@ module _ (o : Owning) where
   poll_popped p t s =
       let again : Outcome = add p.queue p.memory (own_list o t) in
       cond (eqb p.answer 0)
-      (cond (leb p.value o.size) (showing p t s) (plainly OverLength 0 again.queue Nothing again.memory s))
+      (cond (leb p.value o.size) (showing p t s) (plainly OverLength 0 again.queue None again.memory s))
       (passed p s)
 
   -- the waiting element names token t
@@ -218,11 +221,11 @@ module _ (o : Owning) where
   poll m s = cond (eqb (poll_refusal m s) 0) (poll_ready m s) (own_refused (poll_refusal m s) m s)
 
   -- release adds the held buffer again, under the same token
-  abbrev pub released : Held → Memory → List ℕ → Owned
-  released Nothing m s = own_refused NotOutstanding m s
-  released (Holds t l) m s =
-      let p : Outcome = add o.queue m (own_list o t) in
-      plainly p.answer p.value p.queue Nothing p.memory s
+  abbrev pub released : Option Held → Memory → List ℕ → Owned
+  released None m s = own_refused NotOutstanding m s
+  released (Some h) m s =
+      let p : Outcome = add o.queue m (own_list o h.token) in
+      plainly p.answer p.value p.queue None p.memory s
 
   unfoldable pub release : Memory → List ℕ → Owned
   release m s = cond (eqb (release_refusal m s) 0) (released o.held m s) (own_refused (release_refusal m s) m s)

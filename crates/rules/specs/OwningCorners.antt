@@ -1,14 +1,13 @@
 -- Corners of the owning queue, tried on 2 buffers of 8 bytes at 4,096: what its calls leave in record and memory, each clause of a well-formed
 -- owning record, broken, and refusals by each of their grounds. One statement for each list.
-use Rattle.std.specs.Prelude.{◌≡◌, refl, true, false, List, [], ◌∷◌, ◌++◌, ℕ, replicate, take, drop}
+use Rattle.std.specs.Prelude.{◌≡◌, refl, Option, None, Some, true, false, List, [], ◌∷◌, ◌++◌, ℕ, replicate, take, drop}
 use Rattle.lists.specs.Pick.{rising}
 use Rattle.virtio.specs.declared.Buffer.{Buffer}
 use Rattle.virtio.specs.Memory.{used_flags, used_idx, used_id, used_len}
 use Rattle.rules.specs.declared.Open.TheVariants.{PeekIdx}
 use Rattle.rules.specs.declared.Held.{Held}
-use Rattle.rules.specs.declared.Held.TheVariants.{Nothing, Holds}
 use Rattle.rules.specs.Record.{with_call}
-use Rattle.rules.specs.Owning.{Owning, Owned, shown, own_broken, own_new, poll_token, own_should_notify, own_set_dev_notify, own_view}
+use Rattle.rules.specs.Owning.{Owning, Owned, holds, shown, own_broken, own_new, poll_token, own_should_notify, own_set_dev_notify, own_view}
 use Rattle.rules.specs.Computing.{computing}
 use Rattle.rules.specs.Cases.{Case, agree, State, four, made, left, stores, gives, adding, popping}
 use Rattle.rules.specs.Orders.{polling, releasing, rest, tells}
@@ -24,14 +23,14 @@ abbrev lined : Owned
 lined = owns 4096 8 17 (made simple)
 
 -- what is held: token and length, or nothing
-abbrev holds : Held → List ℕ
-holds Nothing = []
-holds (Holds t l) = t ∷ l ∷ []
+abbrev said_held : Option Held → List ℕ
+said_held None = []
+said_held (Some h) = h.token ∷ h.len ∷ []
 
 -- avail_idx, last_used_idx, the first broken clause, and what is held
 abbrev stands : Owned → List ℕ
 stands o =
-    o.owning.queue.counts.avail ∷ o.owning.queue.counts.last ∷ own_broken o.owning ∷ holds o.owning.held
+    o.owning.queue.counts.avail ∷ o.owning.queue.counts.last ∷ own_broken o.owning ∷ said_held o.owning.held
 
 -- descriptor 1; the available ring's idx and its two heads
 abbrev descriptor : Owned → List ℕ
@@ -59,7 +58,7 @@ emptied t u =
 -- base and size of a refused record, what it holds, its queue's size, and the store's first byte
 abbrev declined : Owned → List ℕ
 declined o =
-    o.answer ∷ o.owning.base ∷ o.owning.size ∷ o.owning.queue.n ∷ (take 1 o.store ++ holds o.owning.held)
+    o.answer ∷ o.owning.base ∷ o.owning.size ∷ o.owning.queue.n ∷ (take 1 o.store ++ said_held o.owning.held)
 
 abbrev pub own_new_corners : List Case
 own_new_corners =
@@ -158,7 +157,7 @@ poll_corners_hold = refl
 -- ---- the clauses
 
 -- an owning record over what two adds left; `lined` with something else held
-abbrev owning : ℕ → ℕ → Held → State → Owning
+abbrev owning : ℕ → ℕ → Option Held → State → Owning
 owning base size h s = record { queue = s.queue; base = base; size = size; held = h }
 
 abbrev breaks : ℕ → Owning → Case
@@ -172,28 +171,28 @@ pair = added (sized 4096 8) (sized 4104 8)
 
 abbrev pub own_clauses : List Case
 own_clauses =
-    breaks 0 (owning 4096 8 Nothing pair)
+    breaks 0 (owning 4096 8 None pair)
     -- 11: a call of the queue is open
-    ∷ breaks 11 (owning 4096 8 Nothing (busy pair))
+    ∷ breaks 11 (owning 4096 8 None (busy pair))
     -- 12: a base off a page, one above 2^64, a size above 1,024, no size
-    ∷ breaks 12 (owning 4097 8 Nothing (added (sized 4097 8) (sized 4105 8)))
-    ∷ breaks 12 (owning 18446744073709551616 8 Nothing (added (sized 18446744073709551616 8) (sized 18446744073709551624 8)))
-    ∷ breaks 12 (owning 4096 1025 Nothing (added (sized 4096 1025) (sized 5121 1025)))
-    ∷ breaks 0 (owning 4096 1024 Nothing (added (sized 4096 1024) (sized 5120 1024)))
-    ∷ breaks 12 (owning 4096 0 Nothing pair)
+    ∷ breaks 12 (owning 4097 8 None (added (sized 4097 8) (sized 4105 8)))
+    ∷ breaks 12 (owning 18446744073709551616 8 None (added (sized 18446744073709551616 8) (sized 18446744073709551624 8)))
+    ∷ breaks 12 (owning 4096 1025 None (added (sized 4096 1025) (sized 5121 1025)))
+    ∷ breaks 0 (owning 4096 1024 None (added (sized 4096 1024) (sized 5120 1024)))
+    ∷ breaks 12 (owning 4096 0 None pair)
     -- 13: the buffers' order, an address, a length, a side, a chain of two
-    ∷ breaks 13 (owning 4096 8 Nothing (added (sized 4104 8) (sized 4096 8)))
-    ∷ breaks 13 (owning 4096 8 Nothing (added (sized 4096 8) (sized 4096 8)))
-    ∷ breaks 13 (owning 4096 8 Nothing (added (sized 4096 8) (sized 4104 7)))
-    ∷ breaks 13 (owning 0 16 Nothing (added (input 0) (sized 16 16)))
-    ∷ breaks 13 (owning 4096 8 (Holds 1 0) (left (adding (sized 4096 8 ∷ sized 4104 8 ∷ []) (made simple))))
+    ∷ breaks 13 (owning 4096 8 None (added (sized 4104 8) (sized 4096 8)))
+    ∷ breaks 13 (owning 4096 8 None (added (sized 4096 8) (sized 4096 8)))
+    ∷ breaks 13 (owning 4096 8 None (added (sized 4096 8) (sized 4104 7)))
+    ∷ breaks 13 (owning 0 16 None (added (input 0) (sized 16 16)))
+    ∷ breaks 13 (owning 4096 8 (holds 1 0) (left (adding (sized 4096 8 ∷ sized 4104 8 ∷ []) (made simple))))
     -- 14: one is not out and not held; one is out and held; no such token; another is not out; more bytes than its size
-    ∷ breaks 14 (owning 4096 8 Nothing (rest held))
-    ∷ breaks 14 (owning 4096 8 (Holds 0 5) (rest lined))
-    ∷ breaks 14 (owning 4096 8 (Holds 2 5) (rest lined))
-    ∷ breaks 14 (owning 4096 8 (Holds 0 5) (made simple))
-    ∷ breaks 14 (owning 4096 8 (Holds 1 9) (rest held))
-    ∷ breaks 0 (owning 4096 8 (Holds 1 8) (rest held))
+    ∷ breaks 14 (owning 4096 8 None (rest held))
+    ∷ breaks 14 (owning 4096 8 (holds 0 5) (rest lined))
+    ∷ breaks 14 (owning 4096 8 (holds 2 5) (rest lined))
+    ∷ breaks 14 (owning 4096 8 (holds 0 5) (made simple))
+    ∷ breaks 14 (owning 4096 8 (holds 1 9) (rest held))
+    ∷ breaks 0 (owning 4096 8 (holds 1 8) (rest held))
     -- poll and release ask for them
     ∷ record { got = tells (polling (busy (rest lined)) lined) ++ tells (releasing (busy (rest held)) held); want = 12 ∷ 0 ∷ 12 ∷ 0 ∷ [] }
     ∷ record { got = tells (polling (rest held) lined) ++ tells (releasing (rest lined) held); want = 12 ∷ 0 ∷ 12 ∷ 0 ∷ [] }
@@ -222,10 +221,10 @@ view_corners =
     ∷ views [] lined.owning numbered
     ∷ views [] held.owning (rising 15 0)
     -- forged: both buffers, a token that is out, no such token, more bytes than its size
-    ∷ views [] (owning 4096 8 (Holds 0 16) (rest lined)) numbered
-    ∷ views [] (owning 4096 8 (Holds 0 5) (rest lined)) numbered
-    ∷ views [] (owning 4096 8 (Holds 2 5) (rest held)) (rising 32 0)
-    ∷ views [] (owning 4096 8 (Holds 1 9) (rest held)) (rising 32 0)
+    ∷ views [] (owning 4096 8 (holds 0 16) (rest lined)) numbered
+    ∷ views [] (owning 4096 8 (holds 0 5) (rest lined)) numbered
+    ∷ views [] (owning 4096 8 (holds 2 5) (rest held)) (rising 32 0)
+    ∷ views [] (owning 4096 8 (holds 1 9) (rest held)) (rising 32 0)
     ∷ []
 
 pub view_corners_hold : agree view_corners ≡ true
@@ -249,9 +248,9 @@ pass_corners =
     ∷ record { got = tells ordered ++ stands ordered; want = 0 ∷ 0 ∷ 2 ∷ 1 ∷ 0 ∷ 1 ∷ 5 ∷ [] }
     ∷ record { got = take 2 (drop 32 ordered.memory.one); want = 1 ∷ 0 ∷ [] }
     -- 12, and no byte is stored
-    ∷ record { got = tells (own_should_notify (owning 4096 8 (Holds 0 5) (rest lined)) lined.memory []); want = 12 ∷ 0 ∷ [] }
-    ∷ record { got = tells (own_set_dev_notify (owning 4096 8 (Holds 0 5) (rest lined)) lined.memory [] false); want = 12 ∷ 0 ∷ [] }
-    ∷ record { got = take 2 (drop 32 (own_set_dev_notify (owning 4096 8 (Holds 0 5) (rest lined)) lined.memory [] false).memory.one); want = 0 ∷ 0 ∷ [] }
+    ∷ record { got = tells (own_should_notify (owning 4096 8 (holds 0 5) (rest lined)) lined.memory []); want = 12 ∷ 0 ∷ [] }
+    ∷ record { got = tells (own_set_dev_notify (owning 4096 8 (holds 0 5) (rest lined)) lined.memory [] false); want = 12 ∷ 0 ∷ [] }
+    ∷ record { got = take 2 (drop 32 (own_set_dev_notify (owning 4096 8 (holds 0 5) (rest lined)) lined.memory [] false).memory.one); want = 0 ∷ 0 ∷ [] }
     ∷ []
 
 pub pass_corners_hold : agree pass_corners ≡ true

@@ -9,6 +9,9 @@ use Rattle.laws.specs.CallKeeps.{Good}
 use Rattle.views.specs.declared.Core.{Core}
 use Rattle.views.specs.Views.{Closed}
 use Rattle.views.specs.Tables.{nexts_in, tables_of, queue_of, desc_is}
+use Rattle.tables.specs.declared.TablesRef.{TablesRef}
+use Rattle.tables.specs.declared.TablesMut.{TablesMut}
+use Rattle.tables.specs.Lent.{Reads}
 
 -- room for n descriptors, and a record that is held and well formed
 pub record Ready (c : Core) (r : ℕ) (words lens halves : List ℕ) (sides : List Bool) : Type 0 where
@@ -18,6 +21,13 @@ pub record Ready (c : Core) (r : ℕ) (words lens halves : List ℕ) (sides : Li
   pub halves_of : 3 * r ≤ length halves
   pub sides_of : r * r ≤ length sides
   pub good : Good (queue_of c (tables_of r words lens halves sides))
+
+-- the same of tables that the code is lent, to be read and to be changed
+abbrev pub ReadyRead : Core → TablesRef → Type 0
+ReadyRead c t = Ready c t.room t.words.now t.lens.now t.halves.now t.sides.now
+
+abbrev pub ReadyHeld : Core → TablesMut → Type 0
+ReadyHeld c t = Ready c t.room t.words.now t.lens.now t.halves.now t.sides.now
 
 -- the lent regions and, in indirect mode, the pool
 pub record Fitting (c : Core) (one two pool : List ℕ) : Type 0 where
@@ -44,3 +54,7 @@ module _ (c : Core) (r : ℕ) (words lens halves : List ℕ) (sides : List Bool)
     room = (let w = s.within in let h = s.halves_of in omega (arith, length-take r halves));
     nexts = λ i l. subst (λ x. x < c.n) (ap (λ (d : Desc). d.next) (desc_is r words lens halves sides i)) (s.good.well.nexts i l);
   }
+
+-- tables that are held ready are ready to be read
+pub reads_ready : (c : Core) (t : TablesMut) (r : TablesRef) → Reads t r → ReadyHeld c t → ReadyRead c r
+reads_ready c t r h s = rw (h.room, h.words, h.lens, h.halves, h.sides) s

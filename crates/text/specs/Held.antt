@@ -1,21 +1,16 @@
--- The buffers that were read, as they stand in the lent number slices.
-use Rattle.std.specs.Prelude.{◌≡◌, true, List, ℕ, ◌≤◌, length, take}
+-- The buffers that were read, as they stand in the lent list.
+use Rattle.std.specs.Prelude.{◌≡◌, List, ℕ, ◌≤◌, take, Option, Some, is_some}
 use Rattle.virtio.specs.declared.Buffer.{Buffer}
-use Rattle.opens.specs.Given.{given}
 use Rattle.text.specs.declared.Side.{Side}
 use Rattle.text.specs.Text.{Listed}
 
--- room for 65 buffers a side
-abbrev pub Rooms : List ℕ → List ℕ → List ℕ → Type 0
-Rooms addrs sizes outs = (length addrs ≡ 130) × (length sizes ≡ 130) × (length outs ≡ 130)
-
--- the first k of each say these buffers
-abbrev pub Holds : ℕ → List ℕ → List ℕ → List ℕ → List Buffer → Type 0
-Holds k addrs sizes outs bs = given (take k addrs) (take k sizes) (take k outs) ≡ bs
+-- the first k of the list are these buffers
+abbrev pub Holds : ℕ → List Buffer → List Buffer → Type 0
+Holds k list bs = take k list ≡ bs
 
 -- a side's line came to this
-pub record Lists (r : Side) (addrs sizes outs : List ℕ) (l : Listed) : Type 0 where
-  pub good : r.ok ≡ l.good
-  pub small : r.count ≤ 130
-  pub place : r.ok ≡ true → r.at ≡ l.at
-  pub holds : r.ok ≡ true → Holds r.count addrs sizes outs l.buffers
+pub record Lists (r : Option Side) (list : List Buffer) (l : Listed) : Type 0 where
+  pub good : is_some r ≡ l.good
+  pub small : (x : Side) → r ≡ Some x → x.count ≤ 130
+  pub place : (x : Side) → r ≡ Some x → x.at ≡ l.at
+  pub holds : (x : Side) → r ≡ Some x → Holds x.count list l.buffers

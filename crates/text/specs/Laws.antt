@@ -1,13 +1,20 @@
 -- Words and numbers one byte at a time, as the loops that read them go; where a word that stands ends, and how large a number is.
-use Rattle.std.specs.Prelude.{◌≡◌, true, false, not, List, [], ◌∷◌, leb, ltb, eqb, length, get_or, drop}
-use Rattle.std.proofs.Common.{sym, ap, ◌∙◌, length-drop, drop-cons}
+use Rattle.std.specs.Prelude.{◌≡◌, refl, Bool, true, false, cond, not, ◌&&◌, Some, None, Option, unwrap_or, List, [], ◌∷◌, leb, ltb, eqb, length, get_or, drop}
+use Rattle.std.proofs.Common.{sym, ap, ◌∙◌, length-drop, drop-cons, take_all}
 use Rattle.std.proofs.lemmas.Bool.{false≢true}
+use Rattle.std.proofs.lemmas.Option.{none-some, same_Some}
+use Rattle.std.specs.List.{starts_with}
+use Rattle.std.specs.Slice.{IsGetRangeResult}
+use denote.Ref.{Bor}
+use mathlib.Core.Logic.{inl, inr}
+use Rattle.text.specs.declared.Number.{Number}
+use Rattle.text.specs.declared.Entry.{Entry}
 use Prim.Native.Nat.{ℕ, suc, ◌+◌, ◌-◌, ◌*◌, ◌/◌, ◌≤◌, ◌<◌}
 use native.Mathlib.Omega.{arith}
 use borrow.Author.Tests.{eq-eqb, ne_eqb, leb-true, leb-false, lt-leb, lt-ltb, le-ltb}
 use Rattle.std.proofs.Math.ListN.{drop_of_length-le}
 use Rattle.lists.specs.Tests.{by_test, and_right}
-use Rattle.text.specs.Text.{starts, stands, none, read, digit, digits_in, number, number_in}
+use Rattle.text.specs.Text.{starts, stands, Found, told, FoundEntry, told_entry, none, read, digit, digits_in, number, number_in}
 
 -- the text from i on: byte i and then the others
 from_here : (s : List ℕ) (i : ℕ) → i < length s → drop i s ≡ get_or s i 0 ∷ drop (i + 1) s
@@ -52,6 +59,58 @@ stands_fits word s at e l =
     let m : length word ≤ length (drop at s) = starts_long word (drop at s) e in
     let d : length (drop at s) ≡ length s - at = length-drop at s in
     omega arith
+
+-- the text behind this place starts with the word, by the library's test
+pub starts_by : (word s : List ℕ) → starts_with eqb s word ≡ starts word s
+unfolding starts
+starts_by [] s = refl
+starts_by (w ∷ ws) [] = refl
+starts_by (w ∷ ws) (c ∷ cs) = ap (λ t. eqb w c && t) (starts_by ws cs)
+
+-- the part from this place on, or nothing, is the text behind it
+pub rest_is : (s : List ℕ) (at : ℕ) (r : Option (Bor (List ℕ))) (d : Bor (List ℕ)) → IsGetRangeResult s at (length s) r → d.now ≡ [] → (unwrap_or r d).now ≡ drop at s
+rest_is s at None d (inl l, _) e = e ∙ sym (drop_of_length-le s {i = at} (omega arith))
+rest_is s at None d (inr l, _) e = absurd (omega arith)
+rest_is s at (Some x) d ((_, _, same, _), _) e =
+    let n : length (drop at s) ≡ length s - at = length-drop at s in
+    same ∙ take_all (length s - at) (drop at s) (omega arith)
+
+-- ---- what the code answers
+
+pub told_none : (r : Found) → told r ≡ None → r.ok ≡ false
+told_none r e = by_test r.ok (λ o. let f : Some (record { value = r.value; at = r.at }) ≡ None = rw o at e in absurd (none-some _ (sym f))) (λ o. o)
+
+pub told_some : (r : Found) (x : Number) → told r ≡ Some x → r ≡ read x.value x.at
+told_some r x e =
+    let here : Number = record { value = r.value; at = r.at } in
+    by_test r.ok
+    (λ o.
+    let f : Some here ≡ Some x = rw o at e in
+    let g : here ≡ x = same_Some here x f in
+    λ i. record { ok = o i; value = (g i).value; at = (g i).at })
+    (λ o. let f : None ≡ Some x = rw o at e in absurd (none-some x f))
+
+-- an entry that was read, as it is found
+abbrev pub found_entry : Entry → FoundEntry
+found_entry x = record { ok = true; addr = x.addr; len = x.len; at = x.at }
+
+pub told_entry_none : (r : FoundEntry) → told_entry r ≡ None → r.ok ≡ false
+told_entry_none r e = by_test r.ok (λ o. let f : Some (record { addr = r.addr; len = r.len; at = r.at }) ≡ None = rw o at e in absurd (none-some _ (sym f))) (λ o. o)
+
+pub told_entry_some : (r : FoundEntry) (x : Entry) → told_entry r ≡ Some x → r ≡ found_entry x
+told_entry_some r x e =
+    let here : Entry = record { addr = r.addr; len = r.len; at = r.at } in
+    by_test r.ok
+    (λ o.
+    let f : Some here ≡ Some x = rw o at e in
+    let g : here ≡ x = same_Some here x f in
+    λ i. record { ok = o i; addr = (g i).addr; len = (g i).len; at = (g i).at })
+    (λ o. let f : None ≡ Some x = rw o at e in absurd (none-some x f))
+
+-- a value that is told only if a test holds was not told
+pub cond_none : {A : Type 0} (b : Bool) (x : A) → cond b (Some x) None ≡ None → b ≡ false
+cond_none true x e = absurd (none-some x (sym e))
+cond_none false x e = refl
 
 -- ---- digits
 

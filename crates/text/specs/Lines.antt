@@ -1,12 +1,10 @@
 -- Lines and entries by cases: what is read where a part of them stands, and where it does not.
-use Rattle.std.specs.Prelude.{◌≡◌, Bool, true, false, cond, ◌&&◌, List, ℕ, suc, ◌+◌, ◌-◌, ◌^◌, length}
+use Rattle.std.specs.Prelude.{◌≡◌, Bool, true, false, cond, ◌&&◌, List, ℕ, suc, ◌+◌, ◌-◌, ◌^◌, length, Option, Some, None}
 use Rattle.std.proofs.Common.{sym, ap, ◌∙◌, arith}
 use Rattle.virtio.specs.declared.Buffer.{Buffer}
-use Rattle.text.specs.declared.Number.{Number}
-use Rattle.text.specs.declared.Entry.{Entry}
 use Rattle.text.specs.declared.Side.{Side}
 use Rattle.text.specs.Words.{newline, colon, line_none}
-use Rattle.text.specs.Text.{stands, none, read, number, ended, field, unlisted, listed, entry_at, entries, side_from, side}
+use Rattle.text.specs.Text.{Found, FoundEntry, stands, none, read, number, ended, field, unlisted, listed, entry_at, entries, side_from, side}
 
 -- ---- a key and a number
 
@@ -15,7 +13,7 @@ module _ (key : List ℕ) (most : ℕ) (s : List ℕ) (at : ℕ) where
   field_no_key k = rw k
 
   -- the number r was read behind the key
-  module _ (r : Number) (is : r ≡ number most s (at + length key)) (k : stands key s at ≡ true) where
+  module _ (r : Found) (is : r ≡ number most s (at + length key)) (k : stands key s at ≡ true) where
     field_ended : field key most s at ≡ ended s r
     field_ended = rw k (ap (ended s) (sym is))
 
@@ -33,14 +31,14 @@ module _ (key : List ℕ) (most : ℕ) (s : List ℕ) (at : ℕ) where
 -- ---- an address and a length
 
 -- the entry of an address a and a length l
-abbrev pub entry_of : Number → Number → Entry
+abbrev pub entry_of : Found → Found → FoundEntry
 entry_of a l = record { ok = l.ok; addr = a.value; len = l.value; at = l.at }
 
-abbrev entry_from : List ℕ → Number → Entry
+abbrev entry_from : List ℕ → Found → FoundEntry
 entry_from s a = entry_of a (cond (a.ok && stands colon s a.at) (number (2 ^ 32 - 1) s (suc a.at)) none)
 
 -- the address a was read there
-module _ (s : List ℕ) (at : ℕ) (a : Number) (is : a ≡ number (2 ^ 64 - 1) s at) where
+module _ (s : List ℕ) (at : ℕ) (a : Found) (is : a ≡ number (2 ^ 64 - 1) s at) where
   entry_from_lem : entry_from s a ≡ entry_at s at
   entry_from_lem = ap (entry_from s) is
 
@@ -54,7 +52,7 @@ module _ (s : List ℕ) (at : ℕ) (a : Number) (is : a ≡ number (2 ^ 64 - 1) 
       let e : entry_from s a ≡ entry_of a none = rw (o, k) in
       sym e ∙ entry_from_lem
 
-  pub entry_good : (l : Number) → l ≡ number (2 ^ 32 - 1) s (a.at + 1) → a.ok ≡ true → stands colon s a.at ≡ true → entry_of a l ≡ entry_at s at
+  pub entry_good : (l : Found) → l ≡ number (2 ^ 32 - 1) s (a.at + 1) → a.ok ≡ true → stands colon s a.at ≡ true → entry_of a l ≡ entry_at s at
   entry_good l il o k =
       let n : a.at + 1 ≡ suc a.at = omega arith in
       let e : entry_from s a ≡ entry_of a (number (2 ^ 32 - 1) s (suc a.at)) = rw (o, k) in
@@ -62,20 +60,20 @@ module _ (s : List ℕ) (at : ℕ) (a : Number) (is : a ≡ number (2 ^ 64 - 1) 
 
 -- ---- the end of a line of entries
 
--- the line ends there after k buffers
-abbrev pub ends_at : List ℕ → ℕ → ℕ → Side
-ends_at s at k = cond (stands newline s at) (record { ok = true; count = k; at = suc at }) (record { ok = false; count = 0; at = 0 })
+abbrev pub side_of : ℕ → ℕ → Option Side
+side_of k at = Some (record { count = k; at = at })
 
-abbrev pub side_of : Bool → ℕ → ℕ → Side
-side_of ok k at = record { ok = ok; count = k; at = at }
+-- the line ends there after k buffers
+abbrev pub ends_at : List ℕ → ℕ → ℕ → Option Side
+ends_at s at k = cond (stands newline s at) (side_of k (suc at)) None
 
 module _ (s : List ℕ) (at k : ℕ) where
-  pub end_good : stands newline s at ≡ true → side_of true k (at + 1) ≡ ends_at s at k
+  pub end_good : stands newline s at ≡ true → side_of k (at + 1) ≡ ends_at s at k
   end_good e =
       let n : at + 1 ≡ suc at = omega arith in
-      rw e (ap (side_of true k) n)
+      rw e (ap (side_of k) n)
 
-  pub end_wrong : stands newline s at ≡ false → side_of false 0 0 ≡ ends_at s at k
+  pub end_wrong : stands newline s at ≡ false → None ≡ ends_at s at k
   end_wrong e = rw e
 
 -- ---- a key and entries

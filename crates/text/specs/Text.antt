@@ -1,6 +1,6 @@
 -- How the text of a replay is read (document 01, "Replays, with one given whole"): words, plain decimal numbers within a width and without leading
 -- zeros, lines of a key and a number, and lines of a key and entries. s is the whole text, and `at` the place from which it is read.
-use Rattle.std.specs.Prelude.{Bool, true, false, cond, ◌&&◌, List, [], ◌∷◌, ◌++◌, ℕ, zero, suc, ◌+◌, ◌-◌, ◌*◌, ◌^◌, leb, eqb, length, drop}
+use Rattle.std.specs.Prelude.{Bool, true, false, cond, ◌&&◌, List, [], ◌∷◌, ◌++◌, ℕ, zero, suc, ◌+◌, ◌-◌, ◌*◌, ◌^◌, leb, eqb, length, drop, Option, Some, None}
 use Rattle.virtio.specs.declared.Buffer.{Buffer}
 use Rattle.text.specs.declared.Number.{Number}
 use Rattle.text.specs.declared.Entry.{Entry}
@@ -17,36 +17,46 @@ stands word s at = starts word (drop at s)
 
 -- ---- numbers
 
+-- whether a number stood there within its width, which it is, and where the text goes on
+pub record Found : Type 0 where
+  pub ok : Bool
+  pub value : ℕ
+  pub at : ℕ
+
+-- as the code answers it
+abbrev pub told : Found → Option Number
+told r = cond r.ok (Some (record { value = r.value; at = r.at })) None
+
 -- none stood there
-abbrev pub none : Number
+abbrev pub none : Found
 none = record { ok = false; value = 0; at = 0 }
 
-abbrev pub read : ℕ → ℕ → Number
+abbrev pub read : ℕ → ℕ → Found
 read v at = record { ok = true; value = v; at = at }
 
 abbrev pub digit : ℕ → Bool
 digit c = leb 48 c && leb c 57
 
 -- the digits go on from v, as long as the number is at most `most`
-unfoldable pub digits_in : ℕ → List ℕ → ℕ → ℕ → Number
+unfoldable pub digits_in : ℕ → List ℕ → ℕ → ℕ → Found
 digits_in most [] at v = read v at
 digits_in most (c ∷ cs) at v =
     cond (digit c) (cond (leb (v * 10 + (c - 48)) most) (digits_in most cs (suc at) (v * 10 + (c - 48))) none) (read v at)
 
 -- a number starts with a digit, and one that starts with 0 is 0
-unfoldable pub number_in : ℕ → List ℕ → ℕ → Number
+unfoldable pub number_in : ℕ → List ℕ → ℕ → Found
 number_in most [] at = none
 number_in most (c ∷ cs) at = cond (eqb c 48) (read 0 (suc at)) (cond (digit c) (digits_in most (c ∷ cs) at 0) none)
 
-abbrev pub number : ℕ → List ℕ → ℕ → Number
+abbrev pub number : ℕ → List ℕ → ℕ → Found
 number most s at = number_in most (drop at s) at
 
 -- the line ends after it
-abbrev pub ended : List ℕ → Number → Number
+abbrev pub ended : List ℕ → Found → Found
 ended s r = cond (r.ok && stands newline s r.at) (read r.value (suc r.at)) none
 
 -- a line of a key and a number
-abbrev pub field : List ℕ → ℕ → List ℕ → ℕ → Number
+abbrev pub field : List ℕ → ℕ → List ℕ → ℕ → Found
 field key most s at = cond (stands key s at) (ended s (number most s (at + length key))) none
 
 -- ---- entries
@@ -63,17 +73,28 @@ unlisted = record { good = false; buffers = []; at = 0 }
 abbrev pub listed : List Buffer → ℕ → Listed
 listed bs at = record { good = true; buffers = bs; at = at }
 
+-- whether an entry stood there, its address and length, and where the text goes on
+pub record FoundEntry : Type 0 where
+  pub ok : Bool
+  pub addr : ℕ
+  pub len : ℕ
+  pub at : ℕ
+
+-- as the code answers it
+abbrev pub told_entry : FoundEntry → Option Entry
+told_entry e = cond e.ok (Some (record { addr = e.addr; len = e.len; at = e.at })) None
+
 -- an address of 64 bits, a colon and a length of 32 bits
-abbrev len_after : List ℕ → Number → Number
+abbrev len_after : List ℕ → Found → Found
 len_after s a = cond (a.ok && stands colon s a.at) (number (2 ^ 32 - 1) s (suc a.at)) none
 
-abbrev pub entry_at : List ℕ → ℕ → Entry
+abbrev pub entry_at : List ℕ → ℕ → FoundEntry
 entry_at s at =
-    let a : Number = number (2 ^ 64 - 1) s at in
-    let l : Number = len_after s a in
+    let a : Found = number (2 ^ 64 - 1) s at in
+    let l : Found = len_after s a in
     record { ok = l.ok; addr = a.value; len = l.value; at = l.at }
 
-abbrev pub buffer_of : Bool → Entry → Buffer
+abbrev pub buffer_of : Bool → FoundEntry → Buffer
 buffer_of output e = record { addr = e.addr; len = e.len; output = output }
 
 -- the last entry's line ends there
@@ -84,7 +105,7 @@ list_end s at bs = cond (stands newline s at) (listed bs (suc at)) unlisted
 unfoldable pub entries : ℕ → Bool → List ℕ → ℕ → List Buffer → Listed
 entries zero output s at bs = unlisted
 entries (suc k) output s at bs =
-    let e : Entry = entry_at s at in
+    let e : FoundEntry = entry_at s at in
     let more : List Buffer = bs ++ (buffer_of output e ∷ []) in
     cond
     e.ok

@@ -1,200 +1,135 @@
 // Reads the text of a replay: words, plain decimal numbers, lines of a key and a number, and lines of a key and entries.
 #![tactic(auto)]
 
-ghost use Rattle.std.specs.Prelude.{◌≡◌, not, cond, true, false, suc, ◌+◌, ◌*◌, ◌≤◌, leb, eqb, drop, List};
+ghost use Rattle.std.specs.Prelude.{◌≡◌, cond, Some, None, suc, ◌+◌, ◌*◌, ◌≤◌, leb, drop, length, List};
 ghost use Rattle.virtio.specs.declared.Buffer.{Buffer};
-ghost use Rattle.text.specs.Text.{none as none_is, stands as stands_is, digit, digits_in, number as number_is, field as field_is, entry_at};
+ghost use Rattle.text.specs.Text.{told, told_entry, stands as stands_is, digits_in, number as number_is, field as field_is, entry_at};
 ghost use Rattle.text.specs.Text.{entries as entries_is, side as side_is};
 ghost use Rattle.text.specs.Words.{newline};
-ghost use Rattle.text.specs.Held.{Rooms, Holds, Lists};
+ghost use Rattle.text.specs.Held.{Holds, Lists};
 
-// A number that was read: whether one stood there within its width, and where the text goes on.
-#[derive(Clone, Copy)]
+use virtio::Buffer;
+
+// A number that was read, and where the text goes on.
+#[derive(Clone, Copy, PartialEq, Eq, Debug)]
 pub struct Number {
-    pub ok: bool,
     pub value: u64,
     pub at: usize,
 }
 
-// An address and a length.
-#[derive(Clone, Copy)]
+// An address and a length, and where the text goes on.
+#[derive(Clone, Copy, PartialEq, Eq, Debug)]
 pub struct Entry {
-    pub ok: bool,
     pub addr: u64,
     pub len: u32,
     pub at: usize,
 }
 
-// A side's line: whether it was good, how many buffers there are with its own, and where the next line starts.
-#[derive(Clone, Copy)]
+// A side's line that was good: how many buffers there are with its own, and where the next line starts.
+#[derive(Clone, Copy, PartialEq, Eq, Debug)]
 pub struct Side {
-    pub ok: bool,
     pub count: usize,
     pub at: usize,
 }
 
-fn none() -> Number
-    ensures { result ≡ none_is }
-{
-    Number {
-        ok: false,
-        value: 0,
-        at: 0,
-    }
-}
+// No side's line has more entries.
+const MOST_ENTRIES: usize = 65;
+
+// Room for the buffers of both sides.
+pub const MOST_BUFFERS: usize = 130;
 
 // Whether the word stands at this place.
 pub fn stands(src: &[u8], at: usize, word: &[u8]) -> bool
     ensures { result ≡ stands_is word.now src.now at }
 {
-    let mut i: usize = 0;
-    let mut p = at;
-    while i < word.len() {
-        if src.len() <= p {
-            return false;
-        }
-        if src[p] != word[i] {
-            return false;
-        }
-        i += 1;
-        p += 1;
-    }
-    true
+    src.get(at..).unwrap_or(&[]).starts_with(word)
 }
 
-fn wide(c: u8) -> u64
-    ensures { result ≡ c }
+// The number with one digit more, if it is within its width.
+fn with_digit(value: u64, digit: u64, most: u64) -> Option<u64>
+    ensures { result ≡ cond (leb (value * 10 + digit) most) (Some (value * 10 + digit)) None }
 {
-    c as u64
-}
-
-fn is_digit(c: u8) -> bool
-    ensures { result ≡ digit c }
-{
-    48 <= c && c <= 57
-}
-
-// Whether one more digit takes the number past its width.
-fn over(value: u64, d: u64, most: u64) -> bool
-    ensures { result ≡ not (leb (value * 10 + d) most) }
-{
-    most < d || (most - d) / 10 < value
+    let longer = value.checked_mul(10)?.checked_add(digit)?;
+    if longer <= most { Some(longer) } else { None }
 }
 
 // The digits from this place on, as long as the number is within its width.
-fn digits(src: &[u8], at: usize, most: u64) -> Number
-    ensures { result ≡ digits_in most (drop at src.now) at 0 }
+fn digits(src: &[u8], at: usize, most: u64) -> Option<Number>
+    requires { at ≤ length src.now }
+    ensures { result ≡ told (digits_in most (drop at src.now) at 0) }
 {
-    let mut value: u64 = 0;
-    let mut i = at;
-    while i < src.len() {
-        if !is_digit(src[i]) {
-            return Number {
-                ok: true,
-                value,
-                at: i,
-            };
+    let mut value = 0;
+    for i in at..src.len() {
+        if !src[i].is_ascii_digit() {
+            return Some(Number { value, at: i });
         }
-        let d = wide(src[i]) - 48;
-        if over(value, d, most) {
-            return none();
-        }
-        value = value * 10 + d;
-        i += 1;
+        value = with_digit(value, u64::from(src[i] - b'0'), most)?;
     }
-    Number {
-        ok: true,
+    Some(Number {
         value,
-        at: i,
-    }
+        at: src.len(),
+    })
 }
 
 // The number at this place, of at most `most`, with no leading zeros.
-pub fn number_at(src: &[u8], at: usize, most: u64) -> Number
-    ensures { result ≡ number_is most src.now at }
+pub fn number_at(src: &[u8], at: usize, most: u64) -> Option<Number>
+    ensures { result ≡ told (number_is most src.now at) }
 {
-    if src.len() <= at {
-        return none();
-    }
-    if src[at] == 48 {
-        return Number {
-            ok: true,
+    let first = *src.get(at)?;
+    if first == b'0' {
+        return Some(Number {
             value: 0,
             at: at + 1,
-        };
+        });
     }
-    if is_digit(src[at]) {
+    if first.is_ascii_digit() {
         digits(src, at, most)
     } else {
-        none()
+        None
     }
 }
 
 // A line of a key and a number.
-pub fn field(src: &[u8], at: usize, key: &[u8], most: u64) -> Number
-    ensures { result ≡ field_is key.now most src.now at }
+pub fn field(src: &[u8], at: usize, key: &[u8], most: u64) -> Option<Number>
+    ensures { result ≡ told (field_is key.now most src.now at) }
 {
     if !stands(src, at, key) {
-        return none();
+        return None;
     }
-    let r = number_at(src, at + key.len(), most);
-    if !r.ok {
-        return none();
+    let number = number_at(src, at + key.len(), most)?;
+    if !stands(src, number.at, b"\n") {
+        return None;
     }
-    if !stands(src, r.at, b"\n") {
-        return none();
-    }
-    Number {
-        ok: true,
-        value: r.value,
-        at: r.at + 1,
-    }
+    Some(Number {
+        at: number.at + 1,
+        ..number
+    })
 }
 
 // An address, a colon and a length.
-fn entry_at(src: &[u8], at: usize) -> Entry
-    ensures { result ≡ entry_at src.now at }
+fn entry_at(src: &[u8], at: usize) -> Option<Entry>
+    ensures { result ≡ told_entry (entry_at src.now at) }
 {
-    let a = number_at(src, at, 18446744073709551615);
-    if a.ok && stands(src, a.at, b":") {
-        let l = number_at(src, a.at + 1, 4294967295);
-        return Entry {
-            ok: l.ok,
-            addr: a.value,
-            len: l.value as u32,
-            at: l.at,
-        };
+    let addr = number_at(src, at, u64::MAX)?;
+    if !stands(src, addr.at, b":") {
+        return None;
     }
-    Entry {
-        ok: false,
-        addr: a.value,
-        len: 0,
-        at: 0,
-    }
-}
-
-fn unlisted() -> Side
-    ensures { result ≡ record { ok = false; count = 0; at = 0 } }
-{
-    Side {
-        ok: false,
-        count: 0,
-        at: 0,
-    }
+    let len = number_at(src, addr.at + 1, u64::from(u32::MAX))?;
+    Some(Entry {
+        addr: addr.value,
+        len: len.value as u32,
+        at: len.at,
+    })
 }
 
 // The line ends after so many buffers, or it is wrong.
-fn list_end(src: &[u8], at: usize, count: usize) -> Side
-    ensures { result ≡ cond (stands_is newline src.now at) (record { ok = true; count = count; at = suc at }) (record { ok = false; count = 0; at = 0 }) }
+fn list_end(src: &[u8], at: usize, count: usize) -> Option<Side>
+    ensures { result ≡ cond (stands_is newline src.now at) (Some (record { count = count; at = suc at })) None }
 {
     if stands(src, at, b"\n") {
-        Side {
-            ok: true,
-            count,
-            at: at + 1,
-        }
+        Some(Side { count, at: at + 1 })
     } else {
-        unlisted()
+        None
     }
 }
 
@@ -202,34 +137,27 @@ fn list_end(src: &[u8], at: usize, count: usize) -> Side
 fn entries(
     src: &[u8],
     at: usize,
-    output: u8,
+    output: bool,
     from: usize,
-    addrs: &mut [u64],
-    sizes: &mut [u32],
-    outs: &mut [u8],
-) -> Side
-    requires { (from ≤ 65) × Rooms addrs.old sizes.old outs.old }
-    ensures { (bs : List Buffer) → Holds from addrs.old sizes.old outs.old bs → Lists result addrs.new sizes.new outs.new (entries_is 65 (not (eqb output 0)) src.now at bs) }
+    list: &mut [Buffer; MOST_BUFFERS],
+) -> Option<Side>
+    requires { from ≤ 65 }
+    ensures { (bs : List Buffer) → Holds from list.old bs → Lists result list.new (entries_is 65 output src.now at bs) }
 {
-    let mut p = at;
-    let mut count = from;
-    let mut left: usize = 65;
-    while 0 < left {
-        let e = entry_at(src, p);
-        if !e.ok {
-            return unlisted();
+    let mut start = at;
+    for count in from..from + MOST_ENTRIES {
+        let entry = entry_at(src, start)?;
+        list[count] = Buffer {
+            addr: entry.addr,
+            len: entry.len,
+            output,
+        };
+        if !stands(src, entry.at, b",") {
+            return list_end(src, entry.at, count + 1);
         }
-        addrs[count] = e.addr;
-        sizes[count] = e.len;
-        outs[count] = output;
-        count += 1;
-        if !stands(src, e.at, b",") {
-            return list_end(src, e.at, count);
-        }
-        p = e.at + 1;
-        left -= 1;
+        start = entry.at + 1;
     }
-    unlisted()
+    None
 }
 
 // A side's line: its entries, or none, behind the buffers that were read before.
@@ -237,32 +165,28 @@ pub fn side_at(
     src: &[u8],
     at: usize,
     key: &[u8],
-    output: u8,
+    output: bool,
     from: usize,
-    addrs: &mut [u64],
-    sizes: &mut [u32],
-    outs: &mut [u8],
-) -> Side
-    requires { (from ≤ 65) × Rooms addrs.old sizes.old outs.old }
-    ensures { (bs : List Buffer) → Holds from addrs.old sizes.old outs.old bs → Lists result addrs.new sizes.new outs.new (side_is key.now (not (eqb output 0)) src.now at bs) }
+    list: &mut [Buffer; MOST_BUFFERS],
+) -> Option<Side>
+    requires { from ≤ 65 }
+    ensures { (bs : List Buffer) → Holds from list.old bs → Lists result list.new (side_is key.now output src.now at bs) }
 {
     if !stands(src, at, key) {
-        return unlisted();
+        return None;
     }
-    let p = at + key.len();
-    if stands(src, p, b"none\n") {
-        return Side {
-            ok: true,
+    let start = at + key.len();
+    if stands(src, start, b"none\n") {
+        return Some(Side {
             count: from,
-            at: p + 5,
-        };
+            at: start + 5,
+        });
     }
-    if stands(src, p, b"\n") {
-        return Side {
-            ok: true,
+    if stands(src, start, b"\n") {
+        return Some(Side {
             count: from,
-            at: p + 1,
-        };
+            at: start + 1,
+        });
     }
-    entries(src, p, output, from, addrs, sizes, outs)
+    entries(src, start, output, from, list)
 }

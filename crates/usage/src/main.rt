@@ -41,60 +41,35 @@ fn pop_request(
 }
 
 // Whether the device wants to be told of what was added.
-fn wants_notice<'a>(sent: Answer, one: &'a [u8], two: &'a [u8], pool: &[u8]) -> bool {
-    let queue = sent.queue;
-    let asked = queue.should_notify(one, two, pool);
-    asked.value == 1
+fn wants_notice<'a>(queue: Queue, one: &'a [u8], two: &'a [u8], pool: &[u8]) -> bool {
+    queue.should_notify(one, two, pool).outcome == Ok(1)
 }
 
-fn receive(sent: Answer, list: [Buffer; 3], one: &mut [u8], two: &[u8], pool: &mut [u8]) -> Answer {
-    let queue = sent.queue;
-    pop_request(
-        Outstanding {
-            queue,
-            token: sent.value,
-        },
-        list,
-        one,
-        two,
-        pool,
-    )
+// Says what a call answered, by its number and its value.
+fn report<W: Write>(to: &mut W, name: &str, r: &Answer) -> io::Result<()> {
+    writeln!(to, "{name} answer={} value={}", r.number(), r.value())
 }
 
-fn report<W: Write>(to: &mut W, name: &[u8], r: Answer) -> io::Result<()> {
-    to.write_all(name)?;
-    to.write_all(b" answer=")?;
-    console::print_decimal(to, r.answer as u64)?;
-    to.write_all(b" value=")?;
-    console::print_decimal(to, r.value as u64)?;
-    to.write_all(b"\n")
-}
-
-fn main(rt: HostRuntime) -> io::Result<()> {
-    let mut out = rt.stdout();
-    let modes = Modes {
-        indirect: false,
-        event_idx: false,
-        legacy: false,
-    };
-    let ask = Ask {
+// What new is asked: a queue of 4 in the flexible layout.
+fn question() -> Ask {
+    Ask {
         n: 4,
         in_use: false,
         most: 256,
-        modes,
+        modes: Modes {
+            indirect: false,
+            event_idx: false,
+            legacy: false,
+        },
         base_one: 4096,
         base_two: 8192,
         base_pool: 0,
-    };
-    let mut one = [0u8; 78];
-    let mut two = [0u8; 38];
-    let mut pool = [0u8; 1];
-    let made = Queue::new(ask, &mut one, &mut two, &pool);
-    if made.answer != 0 {
-        return Ok(());
     }
-    let queue = made.queue;
-    let list = [
+}
+
+// A buffer that the device reads, and two that it writes.
+fn request() -> [Buffer; 3] {
+    [
         Buffer {
             addr: 65536,
             len: 16,
@@ -110,15 +85,29 @@ fn main(rt: HostRuntime) -> io::Result<()> {
             len: 1,
             output: true,
         },
-    ];
-    let sent = add_request(queue, list, &mut one, &two, &mut pool);
-    report(&mut out, b"add", sent)?;
-    if sent.answer != 0 {
+    ]
+}
+
+fn main(rt: HostRuntime) -> io::Result<()> {
+    let mut out = rt.stdout();
+    let mut one = [0u8; 78];
+    let mut two = [0u8; 38];
+    let mut pool = [0u8; 1];
+    let made = Queue::new(question(), &mut one, &mut two, &pool);
+    if made.outcome.is_err() {
         return Ok(());
     }
-    if wants_notice(sent, &one, &two, &pool) {
+    let list = request();
+    let sent = add_request(made.queue, list, &mut one, &two, &mut pool);
+    report(&mut out, "add", &sent)?;
+    let Ok(token) = sent.outcome else {
+        return Ok(());
+    };
+    let queue = sent.queue;
+    if wants_notice(queue, &one, &two, &pool) {
         out.write_all(b"the device is notified\n")?;
     }
-    let done = receive(sent, list, &mut one, &two, &mut pool);
-    report(&mut out, b"pop", done)
+    let chain = Outstanding { queue, token };
+    let done = pop_request(chain, list, &mut one, &two, &mut pool);
+    report(&mut out, "pop", &done)
 }

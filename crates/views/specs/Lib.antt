@@ -4,8 +4,10 @@
 --   Clauses   the clauses of a well-formed record, over the views
 --   Fresh     what all-zero and fresh words say
 --   Fixed     the tables fix the words
+--   Over      tests and counts over the first n numbers
 pub mod Views
 pub mod Tables
 pub mod Clauses
 pub mod Fresh
 pub mod Fixed
+pub mod Over

@@ -1,7 +1,10 @@
-// How the record is stored: here its plain fields as a struct, and in specs/ the private tables as lists of words, what the code reads of them, and the
-// rules' record that both say together. No code.
+// How the record is stored: here its plain fields as a struct and its private tables by field, and in specs/ the tables as lists of words, what the code
+// reads of them, and the rules' record that both say together. No code.
 #![tactic(auto)]
 
+mod by_field;
+
+pub use by_field::Fields;
 use rules::{Modes, Open};
 
 // The record's fields beside its tables.

@@ -1,23 +1,37 @@
-// The check that a record is well formed (document 01, "The record"): the number of the first broken clause, 0 for none. It works on lent slices, so that
-// it serves a record with its tables inside and one whose tables are lent.
+// The check that a record is well formed (document 01, "The record"): the first broken clause, if one is. It works on lent tables, so that it serves a record
+// with its tables inside and one whose tables are lent.
 #![tactic(auto)]
 
-ghost use Rattle.std.specs.Prelude.{◌≡◌, cond, ◌+◌, ◌*◌, ◌≤◌, eqb, ltb, length};
+ghost use Rattle.std.specs.Prelude.{◌≡◌, cond, ◌≤◌, eqb, ltb};
 ghost use Rattle.lists.specs.Pick.{every, first, one_if};
 ghost use Rattle.virtio.specs.Layout.{need_pool};
 ghost use Rattle.rules.specs.Record.{is_add};
 ghost use Rattle.rules.specs.WellFormed.{base_ok, broken as broken_is};
 ghost use Rattle.views.specs.Views.{at, Closed};
-ghost use Rattle.views.specs.Tables.{tables_of, queue_of};
+ghost use Rattle.views.specs.Tables.{queue_of};
 ghost use Rattle.views.specs.Clauses.{plain_tests, link_tests, head_tests, call_tests, Plain};
-ghost use Rattle.wellformed.specs.Room.{Room};
+ghost use Rattle.tables.specs.Lent.{tables_read};
+ghost use Rattle.wellformed.specs.Numbers.{number_of, broken_number};
+ghost use Rattle.wellformed.specs.Room.{HasRoom};
+ghost use Rattle.wellformed.specs.Parts.{IsBy};
+
+mod clause;
 
 use chains::{links, nexts_below, out_count};
+pub use clause::Clause;
 use heads::{base_ok, buffers_sound, call_ok, list_heads, size_ok};
 use indices::ahead;
 use layout::need_pool;
 use rules::Open;
-use views::Core;
+use tables::TablesRef;
+use views::{Core, Fields};
+
+// That a clause holds, or else the clause.
+fn ask(holds: bool, clause: Clause) -> Result<(), Clause>
+    ensures { broken_number result ≡ cond holds 0 (number_of clause) }
+{
+    if holds { Ok(()) } else { Err(clause) }
+}
 
 // Whether the pool's base fits the mode.
 fn pool_base_ok(indirect: bool, base: u64, n: u16) -> bool
@@ -31,154 +45,101 @@ fn pool_base_ok(indirect: bool, base: u64, n: u16) -> bool
 }
 
 // The clauses that read no table: size, base, num_used.
-fn plain_broken(c: Core) -> u8
-    ensures { result ≡ first (plain_tests c) }
+fn plain_broken(c: Core) -> Result<(), Clause>
+    ensures { broken_number result ≡ first (plain_tests c) }
 {
-    let modes = c.modes;
-    if !size_ok(c.n) {
-        return 1;
-    }
-    if !pool_base_ok(modes.indirect, c.base, c.n) {
-        return 2;
-    }
-    if c.n < c.num_used {
-        return 3;
-    }
-    0
+    ask(size_ok(c.n), Clause::Size)?;
+    ask(pool_base_ok(c.modes.indirect, c.base, c.n), Clause::Base)?;
+    ask(c.num_used <= c.n, Clause::Used)
 }
 
 // Which of two clauses is broken where the walk found one of them broken: a next of n or more, or else a descriptor that is not named once.
-fn unnamed(n: u16, next: &[u16]) -> u8
-    requires { n ≤ length next.now }
-    ensures { result ≡ cond (every (λ i. ltb (at next.now i) n) n 0) 5 4 }
+fn unnamed(f: &Fields) -> Clause
+    ensures { number_of result ≡ cond (every (λ i. ltb (at f.now.next.now i) f.now.n) f.now.n 0) 5 4 }
 {
-    if nexts_below(n, next) { 5 } else { 4 }
+    if nexts_below(f) {
+        Clause::Once
+    } else {
+        Clause::Next
+    }
 }
 
 // How the tables link: nexts, each descriptor named once, ends of chains. One walk answers them all; which of the first two is broken is asked after it.
-fn links_broken(c: Core, next: &[u16], flags: &[u16], noted: &[u16]) -> u8
+fn links_broken(c: Core, f: &Fields) -> Result<(), Clause>
     requires plain { Plain c }
-    requires n_in_bounds { (c.n ≤ length next.now) × (c.n ≤ length flags.now) }
-    requires n_in_bounds_2 { c.n ≤ length noted.now }
-    ensures { result ≡ first (link_tests c next.now flags.now noted.now) }
+    requires n_of { f.now.n ≡ c.n }
+    ensures { broken_number result ≡ first (link_tests c f.now.next.now f.now.flags.now f.now.noted.now) }
 {
     if c.n <= c.free_head {
-        return 4;
+        return Err(Clause::Next);
     }
-    let walked = links(c.n, c.num_used, c.free_head, next, flags, noted);
-    if !walked.named {
-        return unnamed(c.n, next);
+    match links(f, c.num_used, c.free_head) {
+        None => Err(unnamed(f)),
+        Some(ended) => ask(ended, Clause::End),
     }
-    if !walked.ended {
-        return 6;
-    }
-    0
 }
 
 // What the heads say: indirect lists, buffers.
-fn heads_broken(
-    c: Core,
-    next: &[u16],
-    flags: &[u16],
-    noted: &[u16],
-    addr: &[u64],
-    len: &[u32],
-    lens: &[u32],
-    sides: &[bool],
-) -> u8
+fn heads_broken(c: Core, f: &Fields) -> Result<(), Clause>
     requires plain { Plain c }
-    requires closed { Closed c.n next.now }
-    requires n_in_bounds { (c.n ≤ length flags.now) × (c.n ≤ length noted.now) }
-    requires n_in_bounds_2 { (c.n ≤ length addr.now) × (c.n ≤ length len.now) }
-    requires n_in_bounds_3 { (c.n * c.n ≤ length lens.now) × (c.n * c.n ≤ length sides.now) }
-    ensures { result ≡ first (head_tests c next.now flags.now noted.now addr.now len.now lens.now sides.now) }
+    requires n_of { f.now.n ≡ c.n }
+    requires closed { Closed c.n f.now.next.now }
+    ensures { broken_number result ≡ first (head_tests c f.now.next.now f.now.flags.now f.now.noted.now f.now.addr.now f.now.len.now f.now.lens.now f.now.sides.now) }
 {
-    let modes = c.modes;
-    if !list_heads(modes.indirect, c.base, c.n, addr, len, flags, noted) {
-        return 7;
-    }
-    if !buffers_sound(c.n, next, flags, len, noted, lens, sides) {
-        return 8;
-    }
-    0
+    ask(list_heads(f, c.modes.indirect, c.base), Clause::Indirect)?;
+    ask(buffers_sound(f), Clause::Buffer)
 }
 
 // 1 for an add, 0 for any other open call and for none.
 fn adds(call: Open) -> u32
     ensures { result ≡ one_if (is_add call) }
 {
-    match call {
-        Open::Idle => 0,
-        Open::Add { .. } => 1,
-        Open::PopIdx { .. } => 0,
-        Open::PopId { .. } => 0,
-        Open::PopLen { .. } => 0,
-        Open::PopStore { .. } => 0,
-        Open::PeekIdx => 0,
-        Open::PeekId => 0,
-    }
+    matches!(call, Open::Add { .. }) as u32
 }
 
 // The count of chains, and the open call.
-fn call_broken(c: Core, flags: &[u16], len: &[u32], noted: &[u16]) -> u8
+fn call_broken(c: Core, f: &Fields) -> Result<(), Clause>
     requires plain { Plain c }
-    requires n_in_bounds { (c.n ≤ length flags.now) × (c.n ≤ length noted.now) }
-    requires n_in_bounds_2 { c.n ≤ length len.now }
-    ensures { result ≡ first (call_tests c flags.now len.now noted.now) }
+    requires n_of { f.now.n ≡ c.n }
+    ensures { broken_number result ≡ first (call_tests c f.now.flags.now f.now.len.now f.now.noted.now) }
 {
-    let call = c.call;
-    let modes = c.modes;
     let published = ahead(c.avail_idx, c.last_used_idx) as u32;
-    if published + adds(call) != out_count(c.n, noted) as u32 {
-        return 9;
-    }
-    if !call_ok(call, c.n, c.num_used, modes.event_idx, flags, len, noted) {
-        return 10;
-    }
-    0
+    ask(
+        published + adds(c.call) == out_count(f) as u32,
+        Clause::Count,
+    )?;
+    ask(
+        call_ok(f, c.call, c.num_used, c.modes.event_idx),
+        Clause::Call,
+    )
 }
 
-// The number of the first broken clause of the record that the fields and the words say, with room for `room` descriptors; 0 for none.
-pub fn broken(
-    c: Core,
-    room: usize,
-    words: &[u64],
-    lens: &[u32],
-    halves: &[u16],
-    sides: &[bool],
-) -> u8
-    requires { Room c room words.now lens.now halves.now sides.now }
-    ensures { result ≡ broken_is (queue_of c (tables_of room words.now lens.now halves.now sides.now)) }
+// The first n descriptors of the tables, by field.
+fn by_field<'a>(n: u16, t: &TablesRef<'a>) -> Fields<'a>
+    requires { n ≤ t.now.room }
+    ensures { IsBy n t.now result }
 {
-    let plain = plain_broken(c);
-    if plain != 0 {
-        return plain;
+    let square = t.room * t.room;
+    Fields {
+        n,
+        next: &t.halves[..t.room],
+        flags: &t.halves[t.room..2 * t.room],
+        noted: &t.halves[2 * t.room..3 * t.room],
+        addr: &t.words[..t.room],
+        len: &t.lens[..t.room],
+        lens: &t.lens[t.room..t.room + square],
+        sides: &t.sides[..square],
     }
-    let two = 2 * room;
-    let three = 3 * room;
-    let next = &halves[..room];
-    let flags = &halves[room..two];
-    let noted = &halves[two..three];
-    let links = links_broken(c, next, flags, noted);
-    if links != 0 {
-        return links;
-    }
-    let square = room * room;
-    let all = room + square;
-    let addr = &words[..room];
-    let len = &lens[..room];
-    let heads = heads_broken(
-        c,
-        next,
-        flags,
-        noted,
-        addr,
-        len,
-        &lens[room..all],
-        &sides[..square],
-    );
-    if heads != 0 {
-        return heads;
-    }
-    call_broken(c, flags, len, noted)
+}
+
+// Whether the record that the fields and the tables say is well formed, or else its first broken clause.
+pub fn broken(c: Core, t: &TablesRef) -> Result<(), Clause>
+    requires { HasRoom c t.now.room }
+    ensures { broken_number result ≡ broken_is (queue_of c (tables_read t.now)) }
+{
+    plain_broken(c)?;
+    let f = by_field(c.n, t);
+    links_broken(c, &f)?;
+    heads_broken(c, &f)?;
+    call_broken(c, &f)
 }

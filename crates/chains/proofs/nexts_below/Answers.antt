@@ -1,43 +1,14 @@
--- `chains::nexts_below` meets its contract: what is asked of all nexts is what is asked of those from `i` on.
-use mathlib.Core.Path.{◌≡◌, sym, ap, ◌∙◌}
-use mathlib.Core.Bool.{Bool, true, false}
-use Prim.Native.Nat.{ℕ, ◌+◌, ◌-◌}
-use native.Mathlib.Omega.{arith}
-use borrow.Author.Tests.{lt-ltb, le-ltb}
-use Rattle.lists.specs.Pick.{every}
-use Rattle.lists.specs.PickLaws.{every_next, every_bad, every_none}
-use Rattle.chains.proofs.nexts_below.Invariants.{low}
+-- `chains::nexts_below` meets its contract: what `all` tells of the slice is what `every` says of the table.
+use Rattle.std.proofs.Common.{rules, ◌≡◌, ◌∙◌, sym, ltb, take}
+use Rattle.std.specs.List.{list_all}
+use Rattle.std.proofs.lemmas.Iterator.{YieldsList-from_slice}
+use Rattle.std.proofs.lemmas.Iterator.Search.{all_from_yields_List}
+use borrow.Author.Tests.{tests}
+use Rattle.views.specs.Over.{every_below}
 use Rattle.chains.proofs.nexts_below.Goals as goal
-
-pub loop-i-init : goal.loop-i-init
-loop-i-init c =
-    let n : ℕ = c.args.n in
-    let p : ℕ → Bool = low n c.args.next.now in
-    let all : n ≡ n - 0 = omega arith in
-    (omega arith, ap (λ m. every p m 0) all)
-
-pub returns-then-n-next : goal.returns-then-n-next
-returns-then-n-next c =
-    let n : ℕ = c.args.n in
-    let p : ℕ → Bool = low n c.args.next.now in
-    let i : ℕ = c.loop-i.i in
-    let bad : p i ≡ false = le-ltb _ n c.if-n-next.true in
-    sym (c.loop-i.invariant.1 ∙ every_bad p (n - i) i (omega arith) bad)
-
-pub loop-i-preserved : goal.loop-i-preserved
-loop-i-preserved c =
-    let n : ℕ = c.args.n in
-    let p : ℕ → Bool = low n c.args.next.now in
-    let i : ℕ = c.loop-i.i in
-    let good : p i ≡ true = lt-ltb _ n c.if-n-next.false in
-    let less : n - i - 1 ≡ n - (i + 1) = omega arith in (
-      omega arith,
-      c.loop-i.invariant.1 ∙ every_next p (n - i) i (omega arith) good ∙ ap (λ m. every p m (i + 1)) less,
-    )
 
 pub returns : goal.returns
 returns c =
-    let n : ℕ = c.args.n in
-    let p : ℕ → Bool = low n c.args.next.now in
-    let i : ℕ = c.loop-i.i in
-    sym (c.loop-i.invariant.1 ∙ every_none p (n - i) i (omega arith))
+    let f = c.args.f.now in
+    let h : c.all.result ≡ list_all (λ x. ltb x f.n) (take f.n f.next.now) = all_from_yields_List (λ x. ltb x f.n) _ _ _ c.all.ensures.ran (YieldsList-from_slice (take f.n f.next.now) cc) (λ x b q k. search (rules, tests)) in
+    h ∙ sym (every_below f.n f.next.now f.next_of)

@@ -1,12 +1,10 @@
--- `exports::mayketura_peek_used` meets its contract: record's method, by way of C's record, which loses no open call.
--- Assumes nothing.
-use mathlib.Core.Path.{refl, ap}
+-- `exports::mayketura_peek_used` meets its contract: record's method, by way of C's record, which loses no open call. Assumes nothing.
 use borrow.Author.Rules.{rules}
 use Rattle.access.specs.Accesses.{memory}
 use Rattle.refusals.specs.Checked.{Indices}
 use Rattle.record.specs.Abs.{Arrays}
 use Rattle.exports.specs.Flat.{core_of, queue_of}
-use Rattle.exports.specs.Closed.{peek_back}
+use Rattle.exports.proofs.Told.{peek_told}
 use Rattle.exports.proofs.mayketura_peek_used.Goals.{Start}
 use Rattle.exports.proofs.mayketura_peek_used.Goals as goal
 
@@ -19,6 +17,5 @@ indices s = search rules
 
 pub returns : goal.returns
 returns c =
-    peek_back (queue_of c.args.q) c.queue_of-queue.result c.peek_used-done.result (queue_of c.flat_of-after.result) (memory c.args.one.now c.args.two.now c.args.pool.now) _
-    (arrays (goal.at.returns c).Start) (indices (goal.at.returns c).Start) refl c.queue_of-queue.ensures (ap queue_of c.flat_of-after.ensures)
-    c.peek_used-done.ensures
+    peek_told c.args.q c.from.ensures c.peek_used.result c.from-2.result c.from-2.ensures (memory c.args.one.now c.args.two.now c.args.pool.now) _
+    (arrays (goal.at.returns c).Start) (indices (goal.at.returns c).Start) c.peek_used.ensures

@@ -1,13 +1,11 @@
--- `exports::mayketura_pop_used` meets its contract: record's method, by way of C's record, which loses no open call.
--- Assumes nothing.
-use mathlib.Core.Path.{refl, ap}
+-- `exports::mayketura_pop_used` meets its contract: record's method, by way of C's record, which loses no open call. Assumes nothing.
 use borrow.Author.Rules.{rules}
 use Rattle.access.specs.Accesses.{memory}
 use Rattle.opens.specs.Given.{given}
 use Rattle.refusals.specs.Checked.{Indices}
 use Rattle.record.specs.Abs.{Arrays}
 use Rattle.exports.specs.Flat.{core_of, queue_of}
-use Rattle.exports.specs.Closed.{pop_back}
+use Rattle.exports.proofs.Told.{listed, pop_told}
 use Rattle.exports.proofs.mayketura_pop_used.Goals.{Start}
 use Rattle.exports.proofs.mayketura_pop_used.Goals as goal
 
@@ -20,6 +18,5 @@ indices s = search rules
 
 pub returns : goal.returns
 returns c =
-    pop_back (queue_of c.args.q) c.queue_of-queue.result c.pop_used-done.result (queue_of c.flat_of-after.result) (memory c.args.one.now c.args.two.now c.args.pool.now) _
-    (arrays (goal.at.returns c).Start) (indices (goal.at.returns c).Start) refl c.queue_of-queue.ensures (ap queue_of c.flat_of-after.ensures) c.args.token
-    (given c.args.addrs.now c.args.sizes.now c.args.outs.now) c.pop_used-done.ensures
+    pop_told c.args.q c.from.ensures c.pop_used-done.result c.from-2.result c.from-2.ensures (memory c.args.one.now c.args.two.now c.args.pool.now) _
+    (arrays (goal.at.returns c).Start) (indices (goal.at.returns c).Start) c.args.token (given c.args.addrs.now c.args.sizes.now c.args.outs.now) (listed _ _ _ _ c.buffers.ensures c.shorten.ensures.is c.gather-list.ensures) c.pop_used-done.ensures

@@ -1,9 +1,6 @@
--- `fields::load` meets its contract. The loop goes down: v is the field of the k - i bytes from at + i on.
--- Assumes nothing.
-use Prim.Native.Nat.{ℕ, ◌+◌, ◌-◌, ◌^◌, ◌≤◌}
-use mathlib.Core.Path.{◌≡◌}
-use native.Mathlib.Omega.{arith}
-use native.Mathlib.Nat.{pow-le-pow_right, sub_self}
+-- `fields::load` meets its contract. The loop goes down: number is the field of the WIDTH - i bytes from at + i on.
+use Rattle.std.proofs.Common.{◌≡◌, ℕ, ◌+◌, ◌-◌, ◌^◌, ◌≤◌, arith}
+use native.Mathlib.Nat.{pow-le-pow_right}
 use Rattle.lists.specs.Bytes.{get_next, get_none, pow_next}
 use Rattle.fields.proofs.load.Goals as goal
 
@@ -12,35 +9,28 @@ below7 : (m : ℕ) → m ≤ 7 → 256 ^ m ≤ 2 ^ 56
 below7 m h = pow-le-pow_right (omega arith) h
 
 pub loop-i-init : goal.loop-i-init
-loop-i-init c =
-    let none = get_none (c.args.k - c.args.k) c.args.s.now (c.args.at + c.args.k) (omega arith) in
-    let one : 256 ^ (c.args.k - c.args.k) ≡ 1 = rw sub_self in
+loop-i-init g c =
+    let i = c.WIDTH-i.result in
+    let left = g.T.Field.WIDTH - i in
+    let none = get_none left c.args.s.now (c.args.at + i) (omega arith) in
+    let nothing : left ≡ 0 = omega arith in
+    let one : 256 ^ left ≡ 1 = rw nothing in
     omega arith
 
-pub overflow_mul-v : goal.overflow_mul-v
-overflow_mul-v c = omega (arith, below7 (c.args.k - c.loop-i.i) (omega arith))
+pub overflow_mul-number : goal.overflow_mul-number
+overflow_mul-number g c =
+    omega (arith, g.met.T.Field.narrow, below7 (g.T.Field.WIDTH - c.loop-i.i) (omega (arith, g.met.T.Field.narrow)))
 
-pub overflow_cast-v : goal.overflow_cast-v
-overflow_cast-v c = omega (arith, c.type_inv.s (c.args.at + (c.loop-i.i - 1)))
-
-pub overflow_add-v-in-loop-i : goal.overflow_add-v-in-loop-i
-overflow_add-v-in-loop-i c =
-    let a = c.args in
-    let l = c.loop-i in
-    omega (arith, below7 (a.k - l.i) (omega arith), c.type_inv.s (a.at + (l.i - 1)))
+pub overflow_add-number : goal.overflow_add-number
+overflow_add-number g c =
+    omega (arith, below7 (g.T.Field.WIDTH - c.loop-i.i) (omega (arith, g.met.T.Field.narrow)), c.type_inv.s (c.args.at + (c.loop-i.i - 1)))
 
 pub loop-i-preserved : goal.loop-i-preserved
-loop-i-preserved c =
-    let a = c.args in
-    let l = c.loop-i in
-    let next = get_next (a.k - (l.i - 1)) (a.k - l.i) a.s.now (a.at + (l.i - 1)) (a.at + l.i) (omega arith) (omega arith) in
-    let pow = pow_next (a.k - (l.i - 1)) (a.k - l.i) (omega arith) in
-    omega (arith, c.type_inv.s (a.at + (l.i - 1)))
-
-pub returns : goal.returns
-returns c =
-    let a = c.args in
-    let l = c.loop-i in
-    let k : a.k - l.i ≡ a.k = omega arith in
-    let at : a.at + l.i ≡ a.at = omega arith in
-    (rw (k, at) at l.invariant.1, rw k at l.invariant.2)
+loop-i-preserved g c =
+    let i = c.loop-i.i in
+    let left = g.T.Field.WIDTH - i in
+    let more = g.T.Field.WIDTH - (i - 1) in
+    let at = c.args.at in
+    let next = get_next more left c.args.s.now (at + (i - 1)) (at + i) (omega arith) (omega arith) in
+    let pow = pow_next more left (omega arith) in
+    omega (arith, c.type_inv.s (at + (i - 1)))

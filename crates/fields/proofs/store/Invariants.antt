@@ -1,14 +1,8 @@
--- `fields::store` meets its contract. The loop goes up: what is left to do is to put w in the k - i bytes from at + i on.
--- Assumes nothing.
-use Prim.Native.Nat.{◌+◌, ◌-◌, ◌≤◌}
-use mathlib.Core.Path.{◌≡◌}
-use lib.ListN.{length}
+-- `fields::store` meets its contract. The loop goes up: what is left to do is to put rest in the WIDTH - i bytes from at + i on.
+use Rattle.std.proofs.Common.{◌≡◌, ◌+◌, ◌-◌}
 use Rattle.lists.specs.Bytes.{put_le}
 use Rattle.fields.proofs.store.Given as goal
 
 abbrev pub invariant-loop-i : goal.invariant-loop-i
-invariant-loop-i l =
-    (l.i ≤ l.k) × (length l.s ≡ length l.initial.s) × (put_le l.k l.initial.s l.at l.v ≡ put_le (l.k - l.i) l.s (l.at + l.i) l.w)
-
-abbrev pub decreases-loop-i : goal.decreases-loop-i
-decreases-loop-i l = l.k - l.i
+invariant-loop-i g l =
+    put_le g.T.Field.WIDTH l.initial.s l.at (g.T.Field.number l.fn.v) ≡ put_le (g.T.Field.WIDTH - l.i) l.s (l.at + l.i) l.rest

@@ -1,9 +1,7 @@
 -- `fields::store_desc` meets its contract: the four stores ensure the four nested stores of `put_desc`.
--- Assumes nothing.
 use Rattle.virtio.specs.Desc.{put_desc}
 use Rattle.fields.proofs.store_desc.Goals as goal
 
 pub returns : goal.returns
 unfolding put_desc
-returns c =
-    rw (c.store16-2.ensures, c.store16.ensures, c.store32.ensures, c.store64.ensures)
+returns c = rw (c.store-4.ensures, c.store-3.ensures, c.store-2.ensures, c.store.ensures)

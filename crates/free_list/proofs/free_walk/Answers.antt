@@ -3,7 +3,7 @@ use mathlib.Core.Path.{refl, ◌∙◌, subst}
 use mathlib.Core.Bool.{Bool, true, false}
 use mathlib.Core.List.{List}
 use native.Mathlib.Omega.{arith}
-use borrow.Author.Tests.{not-true, not-false}
+use Rattle.std.proofs.Common.{rules}
 use Rattle.lists.specs.Asked.{bounded_none, bounded_on, bounded_stop, bounded_out}
 use Rattle.lists.specs.Marks.{marks_of}
 use Rattle.lists.specs.Visited.{MarkedRun}
@@ -22,11 +22,11 @@ returns-then-not-mark_run c =
     let p = c.first_run-run in
     let m = c.mark_run in
     let last : List Bool = marks_of m.new.seen in
-    let old : MarkedRun (marks_of l.seen) last p.result.low p.result.count false = subst (MarkedRun (marks_of l.seen) last p.result.low p.result.count) (not-true m.result c.if-not-mark_run.true-raw) m.ensures in
+    let old : MarkedRun (marks_of l.seen) last p.result.low p.result.count false = subst (MarkedRun (marks_of l.seen) last p.result.low p.result.count) (search rules) m.ensures in
     l.invariant.2 last false (bounded_stop c.args.n (at c.args.next.now) l.more l.d p.result.low p.result.count p.result.last p.ensures (marks_of l.seen) last last old)
 
-pub bounds-next-last : goal.bounds-next-last
-bounds-next-last c = let r = c.first_run-run.ensures in let below = r.last_below in omega arith
+pub bounds-next-run : goal.bounds-next-run
+bounds-next-run c = let r = c.first_run-run.ensures in let below = r.last_below in omega arith
 
 pub returns-then-n-x : goal.returns-then-n-x
 returns-then-n-x c =
@@ -47,7 +47,7 @@ runs-preserved c =
     let p = c.first_run-run in
     let m = c.mark_run in
     let seen : List Bool = marks_of m.new.seen in
-    let new : MarkedRun (marks_of l.seen) seen p.result.low p.result.count true = subst (MarkedRun (marks_of l.seen) seen p.result.low p.result.count) (not-false m.result c.if-not-mark_run.false-raw) m.ensures in (
+    let new : MarkedRun (marks_of l.seen) seen p.result.low p.result.count true = subst (MarkedRun (marks_of l.seen) seen p.result.low p.result.count) (search rules) m.ensures in (
       omega arith,
       m.auto.seen ∙ l.invariant.1,
       λ after r f. l.invariant.2 after r

@@ -1,29 +1,19 @@
--- `fresh::clear` meets its contract. The loop goes up: what is left to do is to clear count - i bytes from from + i on.
--- Assumes nothing.
-use mathlib.Core.Path.{◌≡◌, refl, sym, ◌∙◌}
-use Prim.Native.Nat.{◌+◌, ◌-◌}
-use native.Mathlib.Omega.{arith}
-use native.Mathlib.Nat.{sub-zero, add-zero}
-use lib.ListN.{length-set}
-use Rattle.fresh.specs.Nexts.{clear_next, clear_none}
+-- `fresh::clear` meets its contract: a part filled with 0 is what as many stores of 0 leave.
+use Rattle.std.proofs.Common.{◌≡◌, List, ℕ, ◌+◌, ◌-◌, ◌≤◌, length, replicate, take, drop, ap, ◌∙◌, arith}
+use Rattle.std.proofs.lemmas.List.{length-replicate, length-take-le, length-drop, drop-drop, append_assoc}
+use Rattle.std.proofs.lemmas.List.Edits.{sets-eq}
 use Rattle.fresh.proofs.clear.Goals as goal
-
-pub loop-i-init : goal.loop-i-init
-loop-i-init c = (omega arith, refl, rw (sub-zero, add-zero))
-
-pub loop-i-preserved : goal.loop-i-preserved
-loop-i-preserved c =
-    let a = c.args in
-    let l = c.loop-i in
-    let e : a.from + l.i + 1 ≡ a.from + (l.i + 1) = omega arith in
-    let f : a.count - l.i - 1 ≡ a.count - (l.i + 1) = omega arith in (
-      omega arith,
-      length-set l.s (a.from + l.i) 0 ∙ l.invariant.1,
-      l.invariant.2 ∙ clear_next l.s (a.from + l.i) (a.count - l.i) (omega arith) ∙ rw (e, f),
-    )
 
 pub returns : goal.returns
 returns c =
-    let a = c.args in
-    let l = c.loop-i in
-    sym (l.invariant.2 ∙ clear_none l.s (a.from + l.i) (a.count - l.i) (omega arith))
+    let s : List ℕ = c.args.s.now in
+    let from : ℕ = c.args.from in
+    let count : ℕ = c.args.count in
+    let size : from + count - from ≡ count = omega arith in
+    let zeros : List ℕ = replicate count 0 in
+    let long : length zeros ≡ count = length-replicate count 0 in
+    let room : count ≤ length (drop from s) = omega (arith, length-drop from s) in
+    let part : length (take (from + count - from) (drop from s)) ≡ count = rw size (length-take-le count (drop from s) room) in
+    let filled : c.fill.new.self ≡ zeros = c.fill.ensures.after (λ y e. e) ∙ ap (λ k. replicate k 0) part in
+    let stored = sets-eq zeros s from (omega (arith, long)) in
+    rw (size, filled, stored, long, drop-drop, append_assoc)

@@ -1,38 +1,16 @@
--- The answer is whether `sound_at` holds at each number below n. The loop's invariant: it is whether it holds at each from h on.
-use mathlib.Core.Path.{◌≡◌}
-use mathlib.Core.Bool.{true, false}
-use Prim.Native.Nat.{ℕ}
-use native.Mathlib.Omega.{arith}
-use native.Mathlib.Nat.{sub-zero}
-use Rattle.heads.specs.Heads.{sound_at, heads_turn, heads_stop, heads_end}
+-- `heads::buffers_sound` meets its contract: what `all` tells of the numbers below n is what `every` says of them.
+use Rattle.std.proofs.Common.{rules, arith, ◌≡◌, ◌∙◌, sym}
+use Rattle.std.specs.List.{list_all, range_with_len}
+use Rattle.std.proofs.lemmas.Iterator.{YieldsList-from_range}
+use Rattle.std.proofs.lemmas.Iterator.Search.{all_from_yields_List}
+use borrow.Author.Tests.{tests}
+use Rattle.views.specs.Over.{every_ranged}
+use Rattle.heads.specs.Heads.{sound_at}
 use Rattle.heads.proofs.buffers_sound.Goals as goal
-
-pub loop-h-init : goal.loop-h-init
-loop-h-init c = (omega arith, rw sub-zero)
-
-pub head_sound-requires : goal.head_sound-requires
-head_sound-requires c =
-    record {
-      closed = c.requires.closed;
-      n_bound = (c.requires.n_bound, omega arith);
-      n_in_bounds = c.requires.n_in_bounds;
-      n_in_bounds_2 = c.requires.n_in_bounds_2;
-      n_in_bounds_3 = c.requires.n_in_bounds_3;
-      short = c.requires.short;
-    }
-
-pub loop-h-preserved : goal.loop-h-preserved
-loop-h-preserved c =
-    let h : ℕ = c.loop-h.h in
-    let t : (sound_at c.args.n c.args.next.now c.args.flags.now c.args.len.now c.args.noted.now c.args.lens.now c.args.sides.now) h ≡ true = rw c.head_sound.ensures at c.if-head_sound.true in
-    (omega arith, heads_turn ((sound_at c.args.n c.args.next.now c.args.flags.now c.args.len.now c.args.noted.now c.args.lens.now c.args.sides.now)) c.args.n h c.loop-h.invariant.1 (omega arith) t)
-
-pub returns-else-head_sound : goal.returns-else-head_sound
-returns-else-head_sound c =
-    let h : ℕ = c.loop-h.h in
-    let t : (sound_at c.args.n c.args.next.now c.args.flags.now c.args.len.now c.args.noted.now c.args.lens.now c.args.sides.now) h ≡ false = rw c.head_sound.ensures at c.if-head_sound.false in
-    heads_stop ((sound_at c.args.n c.args.next.now c.args.flags.now c.args.len.now c.args.noted.now c.args.lens.now c.args.sides.now)) c.args.n h c.loop-h.invariant.1 (omega arith) t
 
 pub returns : goal.returns
 returns c =
-    heads_end ((sound_at c.args.n c.args.next.now c.args.flags.now c.args.len.now c.args.noted.now c.args.lens.now c.args.sides.now)) c.args.n c.loop-h.h c.loop-h.invariant.1 (omega arith)
+    let f = c.args.f.now in
+    let p = sound_at f.n f.next.now f.flags.now f.len.now f.noted.now f.lens.now f.sides.now in
+    let h : c.all.result ≡ list_all p (range_with_len 0 f.n) = all_from_yields_List p _ _ _ c.all.ensures.ran (YieldsList-from_range 0 f.n f.n (search rules) (omega arith)) (λ x b q k. search (rules, tests)) in
+    h ∙ sym (every_ranged p f.n 0)

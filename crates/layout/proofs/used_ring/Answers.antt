@@ -1,9 +1,6 @@
 -- `layout::used_ring` meets its contract. The part that each arm takes ends inside what its region needs, and is the rules' part for that layout.
 -- Assumes nothing.
-use mathlib.Core.Path.{◌≡◌}
-use Prim.Native.Nat.{ℕ, ◌+◌, ◌-◌}
 use native.Mathlib.Omega.{arith}
-use Rattle.virtio.specs.Layout.{used_size}
 use Rattle.virtio.specs.Sizes.{used_small, used_in_one, used_in_two}
 use Rattle.layout.proofs.used_ring.Goals as goal
 
@@ -21,17 +18,3 @@ pub slice_bounds-result-end-else-legacy : goal.slice_bounds-result-end-else-lega
 slice_bounds-result-end-else-legacy c =
     let a = c.args in
     omega (arith, used_in_two a.legacy a.n c.if-legacy.false)
-
-pub returns-then-legacy : goal.returns-then-legacy
-returns-then-legacy c =
-    let n : ℕ = c.args.n in
-    let from : ℕ = c.used_at-from.result in
-    let size : from + c.used_size.result - from ≡ used_size n = omega arith in
-    rw (size, c.used_at-from.ensures, c.if-legacy.true)
-
-pub returns-else-legacy : goal.returns-else-legacy
-returns-else-legacy c =
-    let n : ℕ = c.args.n in
-    let from : ℕ = c.used_at-from.result in
-    let size : from + c.used_size.result - from ≡ used_size n = omega arith in
-    rw (size, c.used_at-from.ensures, c.if-legacy.false)

@@ -1,24 +1,22 @@
 -- `marks::mark` meets its contract: a run of one.
-use mathlib.Core.Path.{◌≡◌, sym, ap, ◌∙◌}
-use mathlib.Core.List.{List}
-use Prim.Native.Nat.{ℕ, ◌*◌, ◌/◌, ◌%◌, ◌^◌}
-use native.Mathlib.Omega.{arith}
-use lib.Bits.{bit_and}
-use lib.ListN.{get_or}
-use Rattle.lists.specs.Digits.{ones, bit_made}
-use Rattle.lists.specs.MarkRuns.{one_new, one_again}
+use Rattle.std.proofs.Common.{◌≡◌, ◌+◌, ◌≤◌, ◌<◌, refl, sym, ap, ◌∙◌, arith, Bool, true, false, not, List, ℕ, get_or, set}
+use Rattle.std.proofs.lemmas.List.{set-get_or}
+use Rattle.lists.specs.Marks.{mark_all}
+use Rattle.lists.specs.Visited.{Met, MarkedRun}
 use Rattle.marks.proofs.mark.Goals as goal
 
-pub returns-then-word-bit-eq0 : goal.returns-then-word-bit-eq0
-returns-then-word-bit-eq0 c =
-    let ws : List ℕ = c.args.seen.now in
-    let i : ℕ = c.args.i in
-    let e : (1 * 2 ^ (i % 64)) % 2 ^ 64 ≡ ones 1 (i % 64) = bit_made (i % 64) (omega arith) in
-    rw e (one_new ws i (omega arith) (ap (bit_and (get_or ws (i / 64) 0)) (sym e) ∙ c.if-word-bit-eq0.true))
+one : (before after : List Bool) (i : ℕ) (r : Bool) → MarkedRun before after i 1 r → (r ≡ not (get_or before i false)) × (after ≡ set before i true)
+unfolding mark_all
+one before after i true run =
+    let was : get_or before i false ≡ false = run.new refl i (omega arith) (omega arith) in
+    (rw was, run.then refl)
+one before after i false run =
+    let met : Met before i 1 = run.met refl in
+    let from : i ≤ met.at = met.from in
+    let below : met.at < i + 1 = met.below in
+    let e : met.at ≡ i = omega arith in
+    let was : get_or before i false ≡ true = ap (λ j. get_or before j false) (sym e) ∙ met.is in
+    (rw was, run.stays refl ∙ sym (ap (λ b. set before i b) (sym was) ∙ set-get_or before i false))
 
 pub returns : goal.returns
-returns c =
-    let ws : List ℕ = c.args.seen.now in
-    let i : ℕ = c.args.i in
-    let e : (1 * 2 ^ (i % 64)) % 2 ^ 64 ≡ ones 1 (i % 64) = bit_made (i % 64) (omega arith) in
-    one_again ws i (omega arith) (λ z. c.if-word-bit-eq0.false (ap (bit_and (get_or ws (i / 64) 0)) e ∙ z))
+returns c = one _ _ c.args.i c.mark_run.result c.mark_run.ensures

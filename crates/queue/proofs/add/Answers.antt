@@ -1,24 +1,14 @@
 -- `queue::add` meets its contract: its opening, finished.
-use mathlib.Core.Path.{ap, ◌∙◌}
+use Rattle.std.proofs.Common.{ap, ◌∙◌, arith}
 use Rattle.rules.specs.Calls.{whole}
-use Rattle.refusals.specs.Checked.{Indices}
-use Rattle.opens.specs.Given.{given}
 use Rattle.queue.specs.Going.{add_going}
-use Rattle.queue.proofs.add.Goals.{Start}
 use Rattle.queue.proofs.add.Goals as goal
-
--- the indices are 16 bits wide
-indices : (s : Start) → Indices s.args.c
-indices s = record { avail = s.well_formed.0.1.1.1.1.1.1.1.0.1; last = s.well_formed.0.1.1.1.1.1.1.1.1.0.1 }
 
 pub finish-requires : goal.finish-requires
 finish-requires c =
-    add_going c.args.c c.args.room c.args.words.now c.args.lens.now c.args.halves.now c.args.sides.now c.args.one.now c.args.two.now c.args.pool.now c.open_add-o.result c.requires (indices (goal.at.finish-requires c).Start) c.open_add-o.new.words c.open_add-o.new.lens c.open_add-o.new.halves c.open_add-o.new.sides c.open_add-o.auto.words c.open_add-o.auto.lens c.open_add-o.auto.halves c.open_add-o.auto.sides (given c.args.addrs.now c.args.sizes.now c.args.outs.now) c.open_add-o.ensures
+    let s : _ = c.args in
+    let o : _ = c.open_add-opened in
+    add_going s.c s.t.now s.one.now s.two.now s.pool.now o.result c.requires (record { avail = omega arith; last = omega arith }) o.new.t o.ensures.same_loan.room s.list.now o.ensures.opened
 
-pub shape_of-words : goal.shape_of-words
-shape_of-words c =
-    c.finish.auto.words ∙ c.open_add-o.auto.words
-
-pub returns : goal.returns
-returns c =
-    c.finish.ensures ∙ ap (whole c.args.c.n) c.open_add-o.ensures
+pub returns-clause-done : goal.returns-clause-done
+returns-clause-done c = c.finish.ensures.moved ∙ ap (whole c.args.c.n) c.open_add-opened.ensures.opened

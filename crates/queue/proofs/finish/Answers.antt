@@ -1,17 +1,22 @@
 -- `queue::finish` meets its contract: a refusal stays, and an opened call takes n + 4 steps at most.
-use mathlib.Core.Path.{◌∙◌}
-use Rattle.views.specs.Tables.{tables_of}
+use Rattle.std.proofs.Common.{ap, ◌∙◌, ◌+◌}
+use Rattle.rules.specs.Refused.{result_number}
+use Rattle.rules.specs.Calls.{opened, moves}
+use Rattle.views.specs.Tables.{queue_of}
+use Rattle.tables.specs.Lent.{tables_held}
 use Rattle.access.specs.Accesses.{memory}
 use Rattle.queue.specs.Going.{whole_no, whole_yes}
 use Rattle.queue.proofs.finish.Goals as goal
 
-pub returns-then-o-ne0 : goal.returns-then-o-ne0
-returns-then-o-ne0 c =
-    whole_no c.args.n c.args.o (tables_of c.args.room c.args.words.now c.args.lens.now c.args.halves.now c.args.sides.now) (memory c.args.one.now c.args.two.now c.args.pool.now) c.if-o-ne0.true
+pub returns-in-Err-clause-moved : goal.returns-in-Err-clause-moved
+returns-in-Err-clause-moved c =
+    let s : _ = c.args in
+    whole_no s.n s.opened (tables_held s.t.now) (memory s.one.now s.two.now s.pool.now) _ c.in-Err.is
 
-pub moves-requires : goal.moves-requires
-moves-requires c = record { ready = c.requires.ready c.if-o-ne0.false; fitting = c.requires.fitting c.if-o-ne0.false }
-
-pub returns : goal.returns
-returns c =
-    c.moves.ensures ∙ whole_yes c.args.n c.args.o (tables_of c.args.room c.args.words.now c.args.lens.now c.args.halves.now c.args.sides.now) (memory c.args.one.now c.args.two.now c.args.pool.now) c.if-o-ne0.false (c.requires.opened c.if-o-ne0.false)
+pub returns-in-Ok-clause-moved : goal.returns-in-Ok-clause-moved
+returns-in-Ok-clause-moved c =
+    let s : _ = c.args in
+    let o : _ = opened (queue_of s.opened.core (tables_held s.t.now)) (memory s.one.now s.two.now s.pool.now) in
+    c.moves.ensures.moved
+    ∙ ap (λ k. moves (k + 4) o) c.from.ensures
+    ∙ whole_yes s.n s.opened (tables_held s.t.now) (memory s.one.now s.two.now s.pool.now) (ap result_number c.in-Ok.is) (c.requires.opened (ap result_number c.in-Ok.is))

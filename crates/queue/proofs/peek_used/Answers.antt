@@ -1,19 +1,26 @@
 -- `queue::peek_used` meets its contract: its opening, finished.
-use mathlib.Core.Path.{ap, ◌∙◌}
-use Rattle.rules.specs.Calls.{whole}
-use Rattle.refusals.specs.Checked.{Indices}
-use Rattle.queue.specs.Going.{peek_going}
-use Rattle.queue.proofs.peek_used.Goals.{Start}
+use Rattle.std.proofs.Common.{◌≡◌, ap, ◌∙◌, arith}
+use Rattle.rules.specs.Calls.{whole, open_peek}
+use Rattle.views.specs.Tables.{queue_of}
+use Rattle.tables.specs.Lent.{tables_held}
+use Rattle.access.specs.Accesses.{memory}
+use Rattle.asks.specs.Outcomes.{done_of}
+use Rattle.queue.specs.Going.{peek_going, peek_held}
+use Rattle.queue.proofs.peek_used.Goals.{After-open_peek-opened}
 use Rattle.queue.proofs.peek_used.Goals as goal
 
--- the indices are 16 bits wide
-indices : (s : Start) → Indices s.args.c
-indices s = record { avail = s.well_formed.0.1.1.1.1.1.1.1.0.1; last = s.well_formed.0.1.1.1.1.1.1.1.1.0.1 }
+-- it was opened over the tables that are held
+held : (c : After-open_peek-opened) → done_of c.open_peek-opened.result (tables_held c.args.t.now) (memory c.args.one.now c.args.two.now c.args.pool.now)
+    ≡ open_peek (queue_of c.args.c (tables_held c.args.t.now)) (memory c.args.one.now c.args.two.now c.args.pool.now)
+held c =
+    let s : _ = c.args in
+    peek_held s.c s.t.now c.read.result c.read.ensures (memory s.one.now s.two.now s.pool.now) c.open_peek-opened.result c.open_peek-opened.ensures
 
 pub finish-requires : goal.finish-requires
 finish-requires c =
-    peek_going c.args.c c.args.room c.args.words.now c.args.lens.now c.args.halves.now c.args.sides.now c.args.one.now c.args.two.now c.args.pool.now c.open_peek-o.result c.requires (indices (goal.at.finish-requires c).Start) c.open_peek-o.ensures
+    let s : _ = c.args in
+    peek_going s.c s.t.now s.one.now s.two.now s.pool.now c.open_peek-opened.result c.requires (record { avail = omega arith; last = omega arith }) (held (goal.at.finish-requires c).After-open_peek-opened)
 
-pub returns : goal.returns
-returns c =
-    c.finish.ensures ∙ ap (whole c.args.c.n) c.open_peek-o.ensures
+pub returns-clause-done : goal.returns-clause-done
+returns-clause-done c =
+    c.finish.ensures.moved ∙ ap (whole c.args.c.n) (held (goal.at.returns-clause-done c).After-open_peek-opened)

@@ -1,20 +1,17 @@
 -- `queue::step` meets its contract: an access, done, and the reaction to what it gave.
-use Rattle.views.specs.Tables.{tables_of, queue_of}
+use Rattle.std.proofs.Common.{ap, ◌∙◌}
+use Rattle.rules.specs.Record.{Queue}
+use Rattle.rules.specs.Step.{access}
+use Rattle.views.specs.Tables.{queue_of}
+use Rattle.tables.specs.Lent.{tables_held, reads_tables}
 use Rattle.access.specs.Accesses.{memory, access_of}
 use Rattle.queue.specs.Steps.{step_is}
 use Rattle.queue.proofs.step.Goals as goal
 
-pub next_access-a-requires : goal.next_access-a-requires
-next_access-a-requires c =
-    c.requires.ready
-
-pub perform-v-requires : goal.perform-v-requires
-perform-v-requires c = record { within = c.next_access-a.ensures.1; fitting = c.requires.fitting }
-
-pub react-requires : goal.react-requires
-react-requires c =
-    c.requires.ready
-
-pub returns : goal.returns
-returns c =
-    step_is (queue_of c.args.c (tables_of c.args.room c.args.words.now c.args.lens.now c.args.halves.now c.args.sides.now)) (memory c.args.one.now c.args.two.now c.args.pool.now) _ _ (access_of c.next_access-a.result) c.perform-v.result c.react.result c.next_access-a.ensures.0 (c.perform-v.ensures (queue_of c.args.c (tables_of c.args.room c.args.words.now c.args.lens.now c.args.halves.now c.args.sides.now)).tables).0 (c.perform-v.ensures (queue_of c.args.c (tables_of c.args.room c.args.words.now c.args.lens.now c.args.halves.now c.args.sides.now)).tables).1 c.react.ensures
+pub returns-clause-moved : goal.returns-clause-moved
+returns-clause-moved c =
+    let s : _ = c.args in
+    let q : Queue = queue_of s.c (tables_held s.t.now) in
+    step_is q (memory s.one.now s.two.now s.pool.now) _ _ (access_of c.next_access-access.result) c.perform-number.result c.react.result
+    (c.next_access-access.ensures.0 ∙ ap (λ u. access (queue_of s.c u) s.c.call) (reads_tables s.t.now c.read.result c.read.ensures))
+    (c.perform-number.ensures (tables_held s.t.now)).0 (c.perform-number.ensures (tables_held s.t.now)).1 c.react.ensures.reacted

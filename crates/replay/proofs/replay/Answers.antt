@@ -3,14 +3,22 @@
 use mathlib.Core.List.{List, []}
 use Prim.Native.Nat.{ℕ}
 use native.Mathlib.Omega.{arith}
+use borrow.Author.Rules.{rules}
+use Rattle.print.specs.Print.{Written}
+use Rattle.replay.specs.Replay.{transcript}
 use Rattle.replay.specs.Header.{written_none, is_written, too_long, short}
 use Rattle.replay.proofs.replay.Goals as goal
 
 pub returns-then-src-gt32768 : goal.returns-then-src-gt32768
 returns-then-src-gt32768 c =
     let before : List ℕ = c.args.out.now in
-    is_written (too_long c.args.src.now (omega (arith, c.if-src-gt32768.true))) (c.put_field.ensures before [] (written_none before))
+    let wrote : Written before c.field.new.self.bytes.now c.field.new.self.said (transcript c.args.src.now) =
+    is_written (too_long c.args.src.now (omega (arith, c.if-src-gt32768.true))) (c.field.ensures.wrote before [] (written_none before)) in
+    search rules
 
 pub returns : goal.returns
 returns c =
-    is_written (short c.args.src.now (omega (arith, c.if-src-gt32768.false))) c.replayed.ensures
+    let before : List ℕ = c.args.out.now in
+    let wrote : Written before c.replayed.new.page.bytes.now c.replayed.new.page.said (transcript c.args.src.now) =
+    is_written (short c.args.src.now (omega (arith, c.if-src-gt32768.false))) (c.replayed.ensures.wrote before (written_none before)) in
+    search rules

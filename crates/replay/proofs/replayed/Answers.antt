@@ -1,114 +1,104 @@
 -- `replay::replayed` meets its contract: each line of the header that is good is printed, and the first that is not ends it.
--- Assumes nothing.
-use mathlib.Core.Path.{◌≡◌, refl, sym, ◌∙◌}
-use mathlib.Core.Bool.{true, ◌&&◌}
+use mathlib.Core.Path.{refl, sym, ◌∙◌}
 use mathlib.Core.List.{List, [], ◌++◌}
 use Prim.Native.Nat.{ℕ}
 use native.Mathlib.Omega.{arith}
-use borrow.Author.Tests.{not-true, not-false}
-use Rattle.lists.specs.Tests.{and_right}
-use Rattle.rules.specs.WellFormed.{size_ok}
 use Rattle.text.specs.declared.Number.{Number}
+use Rattle.text.specs.Text.{read, field}
+use Rattle.text.specs.Laws.{told_none, told_some}
 use Rattle.print.specs.Print.{field_line}
 use Rattle.replay.specs.Words.{word_size, word_indirect, word_event}
 use Rattle.replay.specs.Laws.{value_within}
-use Rattle.replay.specs.Header.{written_none, is_written, no_size, no_indirect_lem, no_event, reads_all}
-use Rattle.replay.proofs.replayed.Goals.{Else-not-good_size}
+use Rattle.replay.specs.Header.{is_had, sized_none, sized_some, no_size, no_indirect_lem, no_event, reads_all}
 use Rattle.replay.proofs.replayed.Goals as goal
 
-sized : (c : Else-not-good_size) → (c.field-n.result.ok && size_ok c.field-n.result.value) ≡ true
-sized c = sym c.good_size.ensures ∙ not-false c.good_size.result c.if-not-good_size.false-raw
+pub returns-in_default-clause-wrote : goal.returns-in_default-clause-wrote
+returns-in_default-clause-wrote c before blank =
+    let s : List ℕ = c.args.src.now in
+    is_had c.field.new.self
+    (no_size s (field word_size 65535 s 0) refl (sized_none _ (sym c.size_at.ensures ∙ c.in_default.is)))
+    (c.field.ensures.wrote before [] blank)
 
-pub good_size-requires : goal.good_size-requires
-good_size-requires c = value_within word_size 65535 c.args.src.now 0 c.field-n.result c.field-n.ensures
-
-pub returns-then-not-good_size : goal.returns-then-not-good_size
-returns-then-not-good_size c =
-    is_written
-    (no_size
-    c.args.src.now
-    c.field-n.result
-    c.field-n.ensures
-    (sym c.good_size.ensures ∙ not-true c.good_size.result c.if-not-good_size.true-raw))
-    (c.put_field.ensures c.args.out.now [] (written_none c.args.out.now))
-
-pub returns-then-not-i : goal.returns-then-not-i
-returns-then-not-i c =
-    let n : Number = c.field-n.result in
-    let i : Number = c.field-i.result in
-    let before : List ℕ = c.args.out.now in
-    is_written
+pub returns-in_default-field-clause-wrote : goal.returns-in_default-field-clause-wrote
+returns-in_default-field-clause-wrote c before blank =
+    let s : List ℕ = c.args.src.now in
+    let n : Number = c.in-Some.n in
+    let size : _ = sized_some (field word_size 65535 s 0) n (sym c.size_at.ensures ∙ c.in-Some.is) in
+    is_had c.field-in_default-field.new.self
     (no_indirect_lem
-    c.args.src.now
-    n
-    c.field-n.ensures
-    (sized (goal.at.returns-then-not-i c).Else-not-good_size)
-    i
-    c.field-i.ensures
-    (not-true i.ok c.if-not-i.true))
-    (c.put_field-then-not-i.ensures before (field_line word_size n.value) (c.put_field-said.ensures before [] (written_none before)))
+    s
+    (read n.value n.at)
+    size.0
+    size.1
+    (field word_indirect 1 s n.at)
+    refl
+    (told_none _ (sym c.field-3.ensures ∙ c.in_default-field.is)))
+    (c.field-in_default-field.ensures.wrote before (field_line word_size n.value) (c.field-2.ensures.wrote before [] blank))
 
-pub returns-then-not-e : goal.returns-then-not-e
-returns-then-not-e c =
-    let n : Number = c.field-n.result in
-    let i : Number = c.field-i.result in
-    let e : Number = c.field-e.result in
-    let before : List ℕ = c.args.out.now in
+pub returns-in_default-field-2-clause-wrote : goal.returns-in_default-field-2-clause-wrote
+returns-in_default-field-2-clause-wrote c before blank =
+    let s : List ℕ = c.args.src.now in
+    let n : Number = c.in-Some.n in
+    let i : Number = c.in-Some-field.i in
+    let size : _ = sized_some (field word_size 65535 s 0) n (sym c.size_at.ensures ∙ c.in-Some.is) in
+    let mode : _ = told_some (field word_indirect 1 s n.at) i (sym c.field-3.ensures ∙ c.in-Some-field.is) in
     let one : List ℕ = field_line word_size n.value in
-    is_written
+    is_had c.field-in_default-field-2.new.self
     (no_event
-    c.args.src.now
-    n
-    c.field-n.ensures
-    (sized (goal.at.returns-then-not-e c).Else-not-good_size)
-    i
-    c.field-i.ensures
-    (not-false i.ok c.if-not-i.false)
-    e
-    c.field-e.ensures
-    (not-true e.ok c.if-not-e.true))
-    (c.put_field-then-not-e.ensures
+    s
+    (read n.value n.at)
+    size.0
+    size.1
+    (read i.value i.at)
+    (sym mode)
+    refl
+    (field word_event 1 s i.at)
+    refl
+    (told_none _ (sym c.field-5.ensures ∙ c.in_default-field-2.is)))
+    (c.field-in_default-field-2.ensures.wrote
     before
     (one ++ field_line word_indirect i.value)
-    (c.put_field-said-2.ensures before one (c.put_field-said.ensures before [] (written_none before))))
+    (c.field-4.ensures.wrote before one (c.field-2.ensures.wrote before [] blank)))
 
 pub overflow_cast-n : goal.overflow_cast-n
 overflow_cast-n c =
-    omega (arith, value_within word_size 65535 c.args.src.now 0 c.field-n.result c.field-n.ensures)
+    let n : Number = c.in-Some.n in
+    let size : _ = sized_some (field word_size 65535 c.args.src.now 0) n (sym c.size_at.ensures ∙ c.in-Some.is) in
+    let low : _ = value_within word_size 65535 c.args.src.now 0 (read n.value n.at) size.0 in
+    omega (arith, low)
 
 pub lent-requires : goal.lent-requires
 lent-requires c =
-    let n : Number = c.field-n.result in
-    (and_right n.ok (size_ok n.value) (sized (goal.at.lent-requires c).Else-not-good_size), refl, c.requires)
+    let size : _ = sized_some (field word_size 65535 c.args.src.now 0) c.in-Some.n (sym c.size_at.ensures ∙ c.in-Some.is) in
+    (size.1, refl, c.requires)
 
-pub shape_of-out : goal.shape_of-out
-shape_of-out c =
-    c.lent.auto.out ∙ c.put_field-said-3.auto.out ∙ c.put_field-said-2.auto.out ∙ c.put_field-said.auto.out
-
-pub returns : goal.returns
-returns c =
-    let n : Number = c.field-n.result in
-    let i : Number = c.field-i.result in
-    let e : Number = c.field-e.result in
-    let before : List ℕ = c.args.out.now in
+pub returns-clause-wrote : goal.returns-clause-wrote
+returns-clause-wrote c before blank =
+    let s : List ℕ = c.args.src.now in
+    let n : Number = c.in-Some.n in
+    let i : Number = c.in-Some-field.i in
+    let e : Number = c.in-Some-field-2.e in
+    let size : _ = sized_some (field word_size 65535 s 0) n (sym c.size_at.ensures ∙ c.in-Some.is) in
+    let mode : _ = told_some (field word_indirect 1 s n.at) i (sym c.field-3.ensures ∙ c.in-Some-field.is) in
+    let event : _ = told_some (field word_event 1 s i.at) e (sym c.field-5.ensures ∙ c.in-Some-field-2.is) in
     let one : List ℕ = field_line word_size n.value in
     let two : List ℕ = one ++ field_line word_indirect i.value in
-    is_written
+    is_had c.lent.new.page
     (reads_all
-    c.args.src.now
-    n
-    c.field-n.ensures
-    (sized (goal.at.returns c).Else-not-good_size)
-    i
-    c.field-i.ensures
-    (not-false i.ok c.if-not-i.false)
-    e
-    c.field-e.ensures
-    (not-false e.ok c.if-not-e.false))
-    (c.lent.ensures
+    s
+    (read n.value n.at)
+    size.0
+    size.1
+    (read i.value i.at)
+    (sym mode)
+    refl
+    (read e.value e.at)
+    (sym event)
+    refl)
+    (c.lent.ensures.wrote
     before
     (two ++ field_line word_event e.value)
-    (c.put_field-said-3.ensures
+    (c.field-6.ensures.wrote
     before
     two
-    (c.put_field-said-2.ensures before one (c.put_field-said.ensures before [] (written_none before)))))
+    (c.field-4.ensures.wrote before one (c.field-2.ensures.wrote before [] blank))))

@@ -1,12 +1,11 @@
 -- `replay::run` meets its contract: what new leaves is the replay `opened`, and blocks goes on from there.
--- Assumes nothing.
 use native.Mathlib.Omega.{arith}
 use Rattle.replay.specs.Replay.{opened}
 use Rattle.replay.specs.Header.{size_range, two_lent, opened_plays}
 use Rattle.replay.proofs.run.Goals as goal
 
-pub blocks-end-requires : goal.blocks-end-requires
-blocks-end-requires c = record {
+pub all_blocks-requires : goal.all_blocks-requires
+all_blocks-requires c = record {
   src_len_bound = (c.requires.n_value.2, omega arith);
   sized = (
     (size_range c.args.n c.requires.n_value.0).0,
@@ -17,16 +16,15 @@ blocks-end-requires c = record {
         c.args.one.now
         c.args.two.now
         c.args.pool.now
-        c.new-made.new.two
+        c.new.new.two
         c.requires.pool_value
-        c.new-made.auto.two,
+        c.new.auto.two,
   );
 }
 
-pub returns : goal.returns
-returns c before text w =
-    (c.blocks-end.ensures
+pub returns-clause-wrote : goal.returns-clause-wrote
+returns-clause-wrote c before text w =
+    c.all_blocks.ensures.wrote
     before
     (opened c.args.n c.args.modes.indirect c.args.modes.event_idx c.args.at text)
-    (opened_plays c.args.n c.args.modes c.args.at c.args.said text c.new-made.result c.requires.n_value.1 c.requires.pool_value c.new-made.ensures w)
-    ).wrote
+    (opened_plays c.args.n c.args.modes c.args.at text c.new.result c.requires.n_value.1 c.requires.pool_value c.new.ensures w)

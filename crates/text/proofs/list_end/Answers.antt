@@ -7,7 +7,6 @@ use lib.ListN.{length}
 use Rattle.text.specs.Words.{newline}
 use Rattle.text.specs.Text.{stands}
 use Rattle.text.specs.Laws.{stands_fits}
-use Rattle.text.specs.Lines.{end_good, end_wrong}
 use Rattle.text.proofs.list_end.Goals as goal
 
 pub overflow_add-result : goal.overflow_add-result
@@ -16,13 +15,3 @@ overflow_add-result c =
     let e : stands newline s.src.now s.at ≡ true = sym c.stands.ensures ∙ c.if-stands.true in
     let f : s.at + 1 ≤ length s.src.now = stands_fits newline s.src.now s.at e (omega arith) in
     omega arith
-
-pub returns-then-stands : goal.returns-then-stands
-returns-then-stands c =
-    let s : _ = c.args in
-    end_good s.src.now s.at s.count (sym c.stands.ensures ∙ c.if-stands.true)
-
-pub returns-else-stands : goal.returns-else-stands
-returns-else-stands c =
-    let s : _ = c.args in
-    c.unlisted.ensures ∙ end_wrong s.src.now s.at s.count (sym c.stands.ensures ∙ c.if-stands.false)

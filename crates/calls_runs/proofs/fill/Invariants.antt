@@ -1,9 +1,0 @@
--- `calls_runs::fill` is safe and ends. Assumes nothing.
-use Prim.Native.Nat.{◌-◌}
-use Rattle.calls_runs.proofs.fill.Given as goal
-
-abbrev pub invariant-loop-i : goal.invariant-loop-i
-invariant-loop-i l = Unit {0}
-
-abbrev pub decreases-loop-i : goal.decreases-loop-i
-decreases-loop-i l = 65536 - l.i

@@ -1,9 +1,0 @@
--- `tables::desc_at` meets its contract: the words at i, as the tables have them.
-use native.Mathlib.Omega.{arith}
-use Rattle.tables.specs.Stores.{desc_load}
-use Rattle.tables.proofs.desc_at.Goals as goal
-
-pub returns : goal.returns
-returns c =
-    let s : _ = c.args in
-    λ sides. desc_load s.room s.words.now s.lens.now s.halves.now sides s.i (omega arith)

@@ -1,9 +1,0 @@
--- `tables::entry_at` meets its contract: the words at j, as the tables have them.
-use native.Mathlib.Omega.{arith}
-use Rattle.tables.specs.Stores.{entry_load}
-use Rattle.tables.proofs.entry_at.Goals as goal
-
-pub returns : goal.returns
-returns c =
-    let s : _ = c.args in
-    λ halves. entry_load s.room s.words.now s.lens.now halves s.sides.now s.j (omega arith)
