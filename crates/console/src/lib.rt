@@ -4,7 +4,7 @@
 ghost use Rattle.std.specs.Prelude.{◌≡◌, ◌<◌, ◌≤◌, OnOk, length, take};
 ghost use Rattle.std.specs.Io.KnownBytes.{Consumes, IsAtEnd};
 ghost use Rattle.io.specs.Counts.{IsPrefixLen};
-ghost use Rattle.console.specs.Digits.{AppendsDecimal};
+ghost use Rattle.console.specs.Digits.{AppendsDecimal, AppendsWord};
 
 use io::decimal;
 use std::io::{Read, Write};
@@ -23,6 +23,14 @@ pub fn print_decimal<W: Write>(to: &mut W, n: u64) -> std::io::Result<()>
     let mut text = [0u8; 20];
     let k = decimal(n, &mut text);
     to.write_all(&text[..k])
+}
+
+// Writes text, and n in decimal behind it.
+pub fn print_word<W: Write>(to: &mut W, text: &[u8], n: u64) -> std::io::Result<()>
+    ensures { OnOk result (AppendsWord (W.contents to.old) (W.contents to.new) text.now n) }
+{
+    to.write_all(text)?;
+    print_decimal(to, n)
 }
 
 // Fills buf from its start, as far as the input goes. Answers how many bytes came, and whether a read failed behind them.
@@ -54,6 +62,15 @@ mod tests {
         out.write_all(b" ")?;
         print_decimal(&mut out, 18446744073709551615)?;
         assert_eq!(rt; out.as_slice(), b"0 18446744073709551615".as_slice());
+        Ok(())
+    }
+
+    #[test]
+    fn prints_the_text_before_the_number(rt: HostRuntime) -> Result<(), Fail> {
+        let mut out = Vec::new(rt.alloc());
+        print_word(&mut out, b"n ", 10)?;
+        print_word(&mut out, b"", 64)?;
+        assert_eq!(rt; out.as_slice(), b"n 1064".as_slice());
         Ok(())
     }
 

@@ -9,6 +9,7 @@ ghost use Rattle.record.specs.Abs.{abs};
 ghost use Rattle.record.specs.Asked.{answer_of};
 
 use buffers::Outstanding;
+use console::print_word;
 use record::{Answer, Ask, Made, Queue, number_of};
 use rules::Modes;
 use std::io;
@@ -85,17 +86,15 @@ fn open_pop_list<const N: usize>(
 
 // What a call answered, and how many descriptors are then free, unless a call is open.
 fn report<W: Write>(to: &mut W, name: &str, r: &Answer) -> io::Result<()> {
-    write!(
-        to,
-        "{name} answer={} value={} steps={}",
-        r.number(),
-        r.value(),
-        r.steps
-    )?;
-    if let Ok(free) = r.queue.available_desc() {
-        write!(to, " free={free}")?;
+    let free = r.queue.available_desc();
+    to.write_all(name.as_bytes())?;
+    print_word(to, b" answer=", u64::from(r.number()))?;
+    print_word(to, b" value=", u64::from(r.value()))?;
+    print_word(to, b" steps=", u64::from(r.steps))?;
+    if let Ok(free) = free {
+        print_word(to, b" free=", u64::from(free))?;
     }
-    writeln!(to)
+    to.write_all(b"\n")
 }
 
 // The queue, and the memory that it shares with the device.
@@ -235,8 +234,11 @@ fn question() -> Ask {
 fn told<W: Write>(to: &mut W, made: &Made) -> io::Result<()> {
     let number = number_of(&made.outcome);
     let places = made.outcome.unwrap_or_default();
-    write!(to, "new answer={number} table={}", places.table)?;
-    writeln!(to, " avail={} used={}", places.avail, places.used)
+    print_word(to, b"new answer=", u64::from(number))?;
+    print_word(to, b" table=", places.table)?;
+    print_word(to, b" avail=", places.avail)?;
+    print_word(to, b" used=", places.used)?;
+    to.write_all(b"\n")
 }
 
 fn buffer(addr: u64, len: u32, output: bool) -> Buffer {

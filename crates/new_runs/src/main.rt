@@ -2,6 +2,7 @@
 // refuses before it looks at memory. Each line says what was asked, what was answered, and sums of the bytes that the regions then hold.
 #![tactic(auto)]
 
+use console::print_word;
 use record::{Ask, Made, Queue, number_of};
 use rules::Modes;
 use std::io;
@@ -42,24 +43,29 @@ fn line<W: Write>(
     one: u64,
     two: u64,
 ) -> io::Result<()> {
-    write!(to, "{label} n={}", ask.n)?;
-    write!(to, " legacy={}", u8::from(ask.modes.legacy))?;
-    write!(to, " indirect={}", u8::from(ask.modes.indirect))?;
-    write!(to, " event={}", u8::from(ask.modes.event_idx))?;
     let places = made.outcome.unwrap_or_default();
-    write!(to, " answer={}", number_of(&made.outcome))?;
-    write!(to, " table={}", places.table)?;
-    write!(to, " avail={} used={}", places.avail, places.used)?;
-    write!(to, " one={one} two={two}")?;
     let noted = made.queue.core.modes;
-    write!(to, " modes={}", u8::from(noted.indirect))?;
-    write!(to, ",{}", u8::from(noted.event_idx))?;
-    write!(to, ",{}", u8::from(noted.legacy))?;
-    write!(to, " base={}", made.queue.core.base)?;
     let broken = made.queue.broken().err().map_or(0, Clause::number);
-    write!(to, " broken={broken}")?;
     let free = made.queue.available_desc();
-    writeln!(to, " desc={},{}", number_of(&free), free.unwrap_or(0))
+    to.write_all(label.as_bytes())?;
+    print_word(to, b" n=", u64::from(ask.n))?;
+    print_word(to, b" legacy=", u64::from(ask.modes.legacy))?;
+    print_word(to, b" indirect=", u64::from(ask.modes.indirect))?;
+    print_word(to, b" event=", u64::from(ask.modes.event_idx))?;
+    print_word(to, b" answer=", u64::from(number_of(&made.outcome)))?;
+    print_word(to, b" table=", places.table)?;
+    print_word(to, b" avail=", places.avail)?;
+    print_word(to, b" used=", places.used)?;
+    print_word(to, b" one=", one)?;
+    print_word(to, b" two=", two)?;
+    print_word(to, b" modes=", u64::from(noted.indirect))?;
+    print_word(to, b",", u64::from(noted.event_idx))?;
+    print_word(to, b",", u64::from(noted.legacy))?;
+    print_word(to, b" base=", made.queue.core.base)?;
+    print_word(to, b" broken=", u64::from(broken))?;
+    print_word(to, b" desc=", u64::from(number_of(&free)))?;
+    print_word(to, b",", u64::from(free.unwrap_or(0)))?;
+    to.write_all(b"\n")
 }
 
 // One call over regions that hold 170 everywhere, of which as much is lent as there is.

@@ -9,6 +9,7 @@ ghost use Rattle.record.specs.Abs.{abs};
 ghost use Rattle.record.specs.Asked.{answer_of};
 
 use buffers::Outstanding;
+use console::print_word;
 use record::{Answer, Ask, Queue};
 use rules::Modes;
 use std::io;
@@ -47,7 +48,10 @@ fn wants_notice<'a>(queue: Queue, one: &'a [u8], two: &'a [u8], pool: &[u8]) -> 
 
 // Says what a call answered, by its number and its value.
 fn report<W: Write>(to: &mut W, name: &str, r: &Answer) -> io::Result<()> {
-    writeln!(to, "{name} answer={} value={}", r.number(), r.value())
+    to.write_all(name.as_bytes())?;
+    print_word(to, b" answer=", u64::from(r.number()))?;
+    print_word(to, b" value=", u64::from(r.value()))?;
+    to.write_all(b"\n")
 }
 
 // What new is asked: a queue of 4 in the flexible layout.
