@@ -52,8 +52,9 @@ fn sum_lists(n: usize, queue: &Queue, pool: &[u8]) -> u64 {
     let mut total = 0;
     for i in 0..n.min(64) {
         if queue.halves[128 + i] != 0 && queue.halves[64 + i] == 4 {
-            let list = pool.iter().skip(i * size).take(queue.lens[i] as usize);
-            total = list.fold(total, |total, byte| mixed(total, *byte));
+            let list = pool.get(i * size..).unwrap_or(&[]);
+            let named = list.iter().take(queue.lens[i] as usize);
+            total = named.fold(total, |total, byte| mixed(total, *byte));
         }
     }
     total

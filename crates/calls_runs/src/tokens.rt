@@ -1,6 +1,7 @@
 // Numbers of a script. Whatever is not a digit parts numbers, so that a script may hold words.
 ghost use Rattle.std.specs.Prelude.{◌≤◌};
 
+use opens::copy_given;
 use virtio::Buffer;
 
 // No list of a script has more buffers.
@@ -41,21 +42,29 @@ impl<'a> Script<'a> {
         self.number().min(most as u64) as usize
     }
 
-    // A list: three counts, of addresses, sizes and sides, and these numbers. It has as many buffers as addresses; a size or a side that is missing is
-    // what the room had, one that no address has is left in the room behind the list, and a side that is not 0 is an output.
+    // A list: three counts, of addresses, sizes and sides, and these numbers. It has as many buffers as addresses, which opens' `given` makes of the three.
     pub fn list<'b>(&mut self, room: &'b mut [Buffer; MOST]) -> &'b [Buffer] {
         let count = self.capped(MOST);
-        let sizes = self.capped(MOST);
-        let sides = self.capped(MOST);
-        for buffer in room[..count].iter_mut() {
-            buffer.addr = self.number();
+        let size_count = self.capped(MOST);
+        let side_count = self.capped(MOST);
+        let mut addrs = [0u64; MOST];
+        let mut sizes = [0u32; MOST];
+        let mut sides = [0u8; MOST];
+        for addr in addrs[..count].iter_mut() {
+            *addr = self.number();
         }
-        for buffer in room[..sizes].iter_mut() {
-            buffer.len = low32(self.number());
+        for size in sizes[..size_count].iter_mut() {
+            *size = low32(self.number());
         }
-        for buffer in room[..sides].iter_mut() {
-            buffer.output = low8(self.number()) != 0;
+        for side in sides[..side_count].iter_mut() {
+            *side = low8(self.number());
         }
+        copy_given(
+            &mut room[..],
+            &addrs[..count],
+            &sizes[..size_count],
+            &sides[..side_count],
+        );
         &room[..count]
     }
 }

@@ -8,6 +8,6 @@ mod list_tests;
 mod opening;
 
 pub use comparison::matches;
-pub use given::buffer_at;
+pub use given::{buffer_at, copy_given};
 pub use list_tests::{full, in_order, none_empty};
 pub use opening::open_add;
