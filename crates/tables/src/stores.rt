@@ -24,6 +24,7 @@ impl TablesMut<'_> {
     pub fn put_desc(&mut self, i: u16, d: Desc)
         requires { i < self.old.room }
         ensures stored { tables_held self.new ≡ with_desc (tables_held self.old) i d }
+        ensures sides_stay { self.new.sides.now ≡ self.old.sides.now }
         ensures same_loan { SameLoan self.old self.new }
     {
         let at = i as usize;
@@ -37,6 +38,9 @@ impl TablesMut<'_> {
     pub fn put_noted(&mut self, h: u16, k: u16)
         requires { h < self.old.room }
         ensures stored { tables_held self.new ≡ with_noted (tables_held self.old) h k }
+        ensures words_stay { self.new.words.now ≡ self.old.words.now }
+        ensures lens_stay { self.new.lens.now ≡ self.old.lens.now }
+        ensures sides_stay { self.new.sides.now ≡ self.old.sides.now }
         ensures same_loan { SameLoan self.old self.new }
     {
         self.halves[2 * self.room + (h as usize)] = k;
@@ -46,6 +50,7 @@ impl TablesMut<'_> {
     pub fn put_entry(&mut self, j: usize, b: Buffer)
         requires { j < self.old.room * self.old.room }
         ensures stored { tables_held self.new ≡ with_entry (tables_held self.old) j b }
+        ensures halves_stay { self.new.halves.now ≡ self.old.halves.now }
         ensures same_loan { SameLoan self.old self.new }
     {
         self.words[self.room + j] = b.addr;
