@@ -77,6 +77,15 @@ module _ (d : Buffer) (xs : List Buffer) where
   unfolding rising
   run_none a k e = ap (run_of d xs a) e
 
+-- sides compared with a side that is known
+pub beq_true : (b : Bool) → b ≡ beq true b
+beq_true true = refl
+beq_true false = refl
+
+pub beq_false : (b : Bool) → not b ≡ beq false b
+beq_false true = refl
+beq_false false = refl
+
 -- what a test for inequality tells
 pub ne_stop : (a b : Buffer) (r : Bool) → r ≡ not (same_buffer a b) → r ≡ true → same_buffer a b ≡ false
 ne_stop a b r e t = by_bool (same_buffer a b) (sym e ∙ t)

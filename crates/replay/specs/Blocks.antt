@@ -27,7 +27,7 @@ use Rattle.text.specs.declared.Side.{Side}
 use Rattle.replay.specs.Words.{line_add, line_used, line_pop, word_id, word_len, word_token}
 use Rattle.replay.specs.Replay.{Play, wrong, called, gave_back, completed, add_block, used_block, pop_block, block, blocks}
 use Rattle.replay.specs.Plays.{play_of, Plays, Sized, LeadsTo}
-use Rattle.replay.specs.Sides.{both, told_as, BothRead}
+use Rattle.replay.specs.Sides.{both, told_as, as_bad, as_good, BothRead}
 
 -- what holds of the replay that the struct says holds of the replay that it plays
 pub at_play
@@ -181,10 +181,10 @@ module _ (s : List ℕ) (p : Play) (at : ℕ) (r : Result Side ℕ) {list : List
   pub add_bad : (k : ℕ) → r ≡ Err k → add_block s p at ≡ wrong p k
   add_bad k e =
       let n : 0 + k ≡ k = omega arith in
-      add_says ∙ ap (λ q. told_as q list (λ j. wrong p (0 + j)) added) e ∙ ap (λ j. wrong p j) n
+      add_says ∙ as_bad r list (λ j. wrong p (0 + j)) added k e ∙ ap (λ j. wrong p j) n
 
   pub add_good : (l : Side) → r ≡ Ok l → add_block s p at ≡ added (take l.count list) l.at
-  add_good l e = add_says ∙ ap (λ q. told_as q list (λ j. wrong p (0 + j)) added) e
+  add_good l e = add_says ∙ as_good r list (λ j. wrong p (0 + j)) added l e
 
 module _ (s : List ℕ) (p : Play) (at : ℕ) (t : Found) (read : t ≡ field word_token (2 ^ 32 - 1) s at) where
   abbrev popped : ℕ → List Buffer → ℕ → Play
@@ -208,11 +208,11 @@ module _ (s : List ℕ) (p : Play) (at : ℕ) (t : Found) (read : t ≡ field wo
         ∙ told.says 1 p (popped t.value)
 
     pub pop_bad : (k : ℕ) → r ≡ Err k → pop_block s p at ≡ wrong p (1 + k)
-    pop_bad k e = pop_says ∙ ap (λ q. told_as q list (λ j. wrong p (1 + j)) (popped t.value)) e
+    pop_bad k e = pop_says ∙ as_bad r list (λ j. wrong p (1 + j)) (popped t.value) k e
 
     pub pop_good : (l : Side) → r ≡ Ok l
         → pop_block s p at ≡ popped t.value (take l.count list) l.at
-    pop_good l e = pop_says ∙ ap (λ q. told_as q list (λ j. wrong p (1 + j)) (popped t.value)) e
+    pop_good l e = pop_says ∙ as_good r list (λ j. wrong p (1 + j)) (popped t.value) l e
 
 -- ---- a block, by its first line
 

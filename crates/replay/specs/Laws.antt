@@ -3,8 +3,9 @@ use Rattle.std.specs.Prelude.{◌≡◌, Bool, true, false, cond, ◌&&◌, List
 use Rattle.std.proofs.Common.{sym, ap, subst, arith, length-drop, length-take-le}
 use Rattle.virtio.specs.Layout.{need_two}
 use Rattle.text.specs.Words.{newline}
-use Rattle.text.specs.Text.{Found, stands, none, read, number, ended, field}
+use Rattle.text.specs.Text.{Found, stands, none, read, number, ended, field, side}
 use Rattle.text.specs.Laws.{starts_long, number_most}
+use Rattle.text.specs.Turns.{side_length}
 
 -- ---- a number that was read is within its width
 
@@ -37,6 +38,11 @@ value_within key most s at r e = subst (λ (x : Found). x.value ≤ most) (sym e
 
 pub stands_long : (word s : List ℕ) (at : ℕ) → stands word s at ≡ true → length word ≤ length s - at
 stands_long word s at e = omega (arith, starts_long word (drop at s) e, length-drop at s)
+
+-- ---- a side has at most 65 buffers
+
+pub side_few : (key : List ℕ) (output : Bool) (s : List ℕ) (at : ℕ) → length (side key output s at []).buffers ≤ 65
+side_few key output s at = side_length key output s at []
 
 -- ---- parts of a list
 

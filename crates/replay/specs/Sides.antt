@@ -71,6 +71,13 @@ pub record BothRead (r : Result Side ℕ) (list : List Buffer) (s : List ℕ) (a
       : (k : ℕ) (p : Play) (good : List Buffer → ℕ → Play)
       → both s at (wrong p (k + 1)) (wrong p (k + 2)) good ≡ told_as r list (λ j. wrong p (k + j)) good
 
+module _ (r : Result Side ℕ) (list : List Buffer) (bad : ℕ → Play) (good : List Buffer → ℕ → Play) where
+  pub as_bad : (k : ℕ) → r ≡ Err k → told_as r list bad good ≡ bad k
+  as_bad k e = ap (λ q. told_as q list bad good) e
+
+  pub as_good : (x : Side) → r ≡ Ok x → told_as r list bad good ≡ good (take x.count list) x.at
+  as_good x e = ap (λ q. told_as q list bad good) e
+
 -- the inputs' line was good: the outputs' line is, or it is the second that is wrong
 pub both_read
     : {s : List ℕ} {at : ℕ} {i : Option Side} {a : List Buffer} (ins : Lists i a (inputs s at)) (f : Side) (fine : i ≡ Some f)

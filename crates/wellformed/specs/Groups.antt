@@ -1,7 +1,7 @@
--- The groups of clauses in order, over the sections of the lent words: what the links show of the nexts, what the tables by field say of a group, and which
--- group tells the first broken clause.
-use Rattle.std.specs.Prelude.{◌≡◌, refl, Bool, true, false, not, cond, ◌&&◌, List, [], ◌∷◌, ◌++◌, ℕ, ◌≤◌, length}
-use Rattle.std.proofs.Common.{sym, ◌∙◌, true≢false, arith}
+-- The groups of clauses in order, over the sections of the lent words: which sections the parts from one bound to another are, how long they are once the plain
+-- clauses hold, what the links show of the nexts, what the tables by field say of a group, and which group tells the first broken clause.
+use Rattle.std.specs.Prelude.{◌≡◌, refl, Bool, true, false, not, cond, ◌&&◌, List, [], ◌∷◌, ◌++◌, ℕ, ◌+◌, ◌-◌, ◌*◌, ◌≤◌, length, take, drop}
+use Rattle.std.proofs.Common.{sym, ◌∙◌, true≢false, mul-le-mul, arith, length-take, length-drop}
 use Rattle.std.proofs.lemmas.Bool.{false≢true, not-false}
 use Rattle.lists.specs.Pick.{Test, ◌when◌, first}
 use Rattle.lists.specs.PickLaws.{Numbered, first_none, first_then, first_stops}
@@ -14,8 +14,19 @@ use Rattle.wellformed.specs.declared.clause.Clause.{Clause}
 use Rattle.wellformed.specs.declared.clause.Clause.TheVariants.{Size, Base, Used, Next, Once, End, Indirect, Buffer, Count, Call}
 use Rattle.wellformed.specs.Numbers.{number_of}
 use Rattle.wellformed.specs.Parts.{IsBy}
-use Rattle.views.specs.Tables.{tables_of, queue_of}
+use Rattle.wellformed.specs.Room.{Room}
+use Rattle.views.specs.Tables.{of_table, of_lists, nexts_in, flags_in, noted_in, sides_in, tables_of, queue_of}
 use Rattle.views.specs.Clauses.{plain_tests, link_tests, head_tests, call_tests, link_tests_in, head_tests_in, call_tests_in, broken_view, links_show}
+
+-- the parts from one bound to another are sections
+pub flags_part : (r : ℕ) (halves : List ℕ) → take (2 * r - r) (drop r halves) ≡ flags_in r halves
+flags_part r halves = let e : 2 * r - r ≡ r = omega arith in rw e
+
+pub noted_part : (r : ℕ) (halves : List ℕ) → take (3 * r - 2 * r) (drop (2 * r) halves) ≡ noted_in r halves
+noted_part r halves = let e : 3 * r - 2 * r ≡ r = omega arith in rw e
+
+pub lists_part : (r : ℕ) (lens : List ℕ) → take (r + r * r - r) (drop r lens) ≡ of_lists r lens
+lists_part r lens = let e : r + r * r - r ≡ r * r = omega arith in rw e
 
 -- the links hold, so the nexts lead below n
 pub links_close : (c : Core) (next flags noted : List ℕ) → c.n ≤ length next → first (link_tests c next flags noted) ≡ 0 → Closed c.n next
@@ -44,6 +55,30 @@ passes : (ts us : List Test) → Numbered ts → first ts ≡ 0 → first (ts ++
 passes ts us h e = first_then ts us (first_none ts h e)
 
 module _ (c : Core) (r : ℕ) (words lens halves : List ℕ) (sides : List Bool) where
+  -- each section has room for the record's n
+  pub record Sections : Type 0 where
+    pub nexts : c.n ≤ length (nexts_in r halves)
+    pub flags : c.n ≤ length (flags_in r halves)
+    pub noted : c.n ≤ length (noted_in r halves)
+    pub addrs : c.n ≤ length (of_table r words)
+    pub lengths : c.n ≤ length (of_table r lens)
+    pub lists : c.n * c.n ≤ length (of_lists r lens)
+    pub kept : c.n * c.n ≤ length (sides_in r sides)
+
+  pub sections : Room c r words lens halves sides → first (plain_tests c) ≡ 0 → Sections
+  sections room e =
+      let fits : c.n ≤ r = room.enough (not-false _ (first_none (plain_tests c) (omega arith) e).0) in
+      let square : c.n * c.n ≤ r * r = mul-le-mul fits fits in
+      record {
+        nexts = simp (length-take, length-drop) (omega arith);
+        flags = simp (length-take, length-drop) (omega arith);
+        noted = simp (length-take, length-drop) (omega arith);
+        addrs = simp (length-take, length-drop) (omega arith);
+        lengths = simp (length-take, length-drop) (omega arith);
+        lists = simp (length-take, length-drop) (omega arith);
+        kept = simp (length-take, length-drop) (omega arith);
+      }
+
   abbrev plain : List Test
   plain = plain_tests c
 
