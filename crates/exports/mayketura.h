@@ -9,8 +9,8 @@
  * A call's loads and stores are plain ones, with no barrier: another processor need not see them in their order, and C cannot place a barrier inside a
  * call, since the single steps are not exported. Between an add and should_notify a guest places a full fence.
  *
- * Stack, as seen on x86-64 with an older compiler of the kit: some 540 KiB for the functions with the record by value, 170 for mayketura_new, 65 for
- * those over lent tables. With today's, the whole of examples/c/guest.c ran in 700 KiB, and did not in 600. */
+ * Stack, as seen on x86-64: the whole of examples/c/guest.c, which has two records of its own, ran in 560 KiB, and did not in 540. By the frames of the
+ * archive's code the functions with the record by value take some 115 KiB, mayketura_new some 90, and those over lent tables some 6. */
 #ifndef MAYKETURA_H
 #define MAYKETURA_H
 

@@ -42,15 +42,15 @@ module _ (xs : List Buffer) (long : 64 < length xs) where
   cut_length : length (cut (gathered xs)).list ≡ 65
   cut_length = length-set (map as_input (gathered xs).list) 0 _ ∙ (length-map (gathered xs).list as_input ∙ listed)
 
-  long_is : stands_for (gathered xs) ≡ (cut (gathered xs)).list
+  pub long_is : stands_for (gathered xs) ≡ (cut (gathered xs)).list
   long_is =
       let n : (gathered xs).count ≡ length xs = filled_count xs (length xs) in
       ap list_of (sym (shortened_cut (gathered xs) (omega arith))) ∙ take_all 65 (cut (gathered xs)).list (omega (arith, cut_length))
 
-  long_length : 64 < length (stands_for (gathered xs))
+  pub long_length : 64 < length (stands_for (gathered xs))
   long_length = let e : length (stands_for (gathered xs)) ≡ 65 = ap length long_is ∙ cut_length in omega arith
 
-  long_order : in_order (stands_for (gathered xs)) ≡ in_order xs
+  pub long_order : in_order (stands_for (gathered xs)) ≡ in_order xs
   long_order = ap in_order long_is ∙ (order_of (gathered xs).mixed (gathered xs).list listed ∙ sym (mixed_is xs))
 
 -- ---- THE LAWS: the calls answer the list that stands for it as they answer the list

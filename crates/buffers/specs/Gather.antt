@@ -1,11 +1,11 @@
 -- What `gather` makes of a list, and the short list that stands for it in the calls; that the calls answer both alike is proved in proofs/Stands.
 use Rattle.std.specs.Prelude.{◌≡◌, refl, Bool, true, false, not, cond, ◌||◌, ◌&&◌, ltb, map, take, drop, set, replicate}
-use Rattle.std.proofs.Common.{sym, ◌∙◌, arith, lt-ltb, le-ltb, length-set, drop-cons, length-take-le, get_or-take, get_or-set_same, ext_get_or}
+use Rattle.std.proofs.Common.{sym, ◌∙◌, arith, lt-ltb, le-ltb, ltb-false, length-set, drop-cons, length-take-le, get_or-take, get_or-set_same, ext_get_or}
 use Rattle.std.proofs.Math.Path.{ap}
 use mathlib.Core.List.{List, [], ◌∷◌}
 use Prim.Native.Nat.{ℕ, zero, suc, ◌≤◌, ◌<◌}
 use Rattle.std.proofs.Math.ListN.{length, get_or, length-replicate}
-use Rattle.std.proofs.Math.Seq.{get_or-set_other}
+use Rattle.std.proofs.Math.Seq.{get_or-set_other, set_out}
 use Rattle.lists.specs.Tests.{by_test, by_eq}
 use Rattle.virtio.specs.declared.Buffer.{Buffer}
 use Rattle.virtio.specs.Desc.{no_buffer}
@@ -21,6 +21,10 @@ none_of n = record { count = n; list = replicate 65 no_buffer; written = false; 
 abbrev pub kept : Gathered → ℕ → Buffer → Gathered
 kept g i b =
     record { count = g.count; list = set g.list i b; written = g.written || b.output; mixed = g.mixed || (g.written && not b.output) }
+
+-- a buffer's side is noted, where there is no room for the buffer
+abbrev pub passed : Gathered → Bool → Gathered
+passed g output = record { count = g.count; list = g.list; written = g.written || output; mixed = g.mixed || (g.written && not output) }
 
 -- the first i buffers of xs are copied
 unfoldable pub filled : List Buffer → ℕ → Gathered
@@ -57,13 +61,39 @@ list_of g = take g.count g.list
 abbrev pub stands_for : Gathered → List Buffer
 stands_for g = list_of (shortened g)
 
+-- bs can stand for xs in a call: it is xs, or both have more buffers than any queue takes, and, where the call asks for it, both are in order or neither is
+pub record StandsIn (ordered : Bool) (bs xs : List Buffer) : Type 0 where
+  pub short : length xs ≤ 64 → bs ≡ xs
+  pub long : 64 < length xs → 64 < length bs
+  pub order : 64 < length xs → ordered ≡ true → in_order bs ≡ in_order xs
+
 -- ---- what the code's branches make
+
+pub kept_in : (g : Gathered) (i : ℕ) (b : Buffer) (late written mixed : Bool) → written ≡ (g.written || b.output) → late ≡ (g.written && not b.output) → mixed ≡ (g.mixed || late)
+    → ◌≡◌ {A = Gathered} (record { count = g.count; list = set g.list i b; written = written; mixed = mixed }) (kept g i b)
+kept_in g i b late written mixed w l m = rw (w, m, l)
+
+pub kept_out : (g : Gathered) (i : ℕ) (b : Buffer) (late written mixed : Bool) → length g.list ≤ i
+    → written ≡ (g.written || b.output) → late ≡ (g.written && not b.output) → mixed ≡ (g.mixed || late)
+    → ◌≡◌ {A = Gathered} (record { count = g.count; list = g.list; written = written; mixed = mixed }) (kept g i b)
+kept_out g i b late written mixed x w l m = rw (w, m, l, set_out g.list i b x)
 
 pub shortened_short : (g : Gathered) → g.count ≤ 64 → g ≡ shortened g
 shortened_short g l = rw (le-ltb 64 g.count l)
 
 pub shortened_cut : (g : Gathered) → 64 < g.count → cut g ≡ shortened g
 shortened_cut g l = rw (lt-ltb 64 g.count l)
+
+-- as many buffers as stand for a list are in the array
+pub within : (g r : Gathered) → r ≡ shortened g → length r.list ≡ 65 → r.count ≤ length r.list
+within g r e l =
+    let c : r.count ≡ (shortened g).count = ap (λ (x : Gathered). x.count) e in
+    by_test (ltb 64 g.count)
+    (λ t. let k : r.count ≡ 65 = c ∙ rw t in omega arith)
+    (λ t. let k : r.count ≡ g.count = c ∙ rw t in let m : g.count ≤ 64 = ltb-false 64 g.count t in omega arith)
+
+pub within_take : (g r : Gathered) → r ≡ shortened g → length r.list ≡ 65 → r.count ≡ length (take r.count r.list)
+within_take g r e l = sym (length-take-le r.count r.list (within g r e l))
 
 -- ---- a turn of the loop
 

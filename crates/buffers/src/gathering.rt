@@ -1,10 +1,10 @@
 // A list of buffers copied from three slices of numbers, as a program in C gives it, with no heap.
 // A list of more than 64 buffers fits no queue, and of such a list a call asks only whether it is in order. So 65 buffers can stand for it.
-ghost use Rattle.std.specs.Prelude.{◌≡◌, ◌≤◌};
+ghost use Rattle.std.specs.Prelude.{◌≡◌, not, cond, eqb, ltb, ◌≤◌, ◌<◌, length, get_or, take};
 ghost use Rattle.opens.specs.Given.{given};
-ghost use Rattle.buffers.specs.Gather.{none_of, kept, gathered, shortened, list_of};
+ghost use Rattle.buffers.specs.Gather.{none_of, kept, passed, gathered, shortened, list_of, stands_for, StandsIn};
 
-use opens::buffer_at;
+use opens::{buffer_at, copy_given};
 use virtio::Buffer;
 
 // A list that was copied: how many buffers it has, the first 65 of them, whether there is an output, and whether an input comes after one.
@@ -16,15 +16,70 @@ pub struct Gathered {
     pub mixed: bool,
 }
 
-// The copy of the list that three slices of numbers say.
+// The copy of the list that three slices of numbers say. Behind the buffers that are kept only the sides are read, and those no further than there is anything
+// to learn of them.
 pub fn gather(addrs: &[u64], sizes: &[u32], outs: &[u8]) -> Gathered
     ensures { result ≡ gathered (given addrs.now sizes.now outs.now) }
 {
     let mut g = Gathered::none(addrs.len());
-    for i in 0..addrs.len() {
+    for i in 0..few(addrs.len()) {
         g.keep(i, buffer_at(addrs, sizes, outs, i));
     }
+    for i in few(addrs.len())..addrs.len() {
+        if g.mixed {
+            return g;
+        }
+        g.pass(is_output(outs, i));
+    }
     g
+}
+
+// How many buffers of a list are kept.
+fn few(count: usize) -> usize
+    ensures { result ≡ cond (ltb count 65) count 65 }
+{
+    if count < 65 { count } else { 65 }
+}
+
+// Whether buffer i is an output; a side that is missing is an input's.
+fn is_output(outs: &[u8], i: usize) -> bool
+    ensures { result ≡ not (eqb (get_or outs.now i 0) 0) }
+{
+    outs.get(i).copied().unwrap_or(0) != 0
+}
+
+// Puts the list that a call is made of into a room, and answers how many buffers it has: the caller's list, or 65 buffers that are answered as a longer one is.
+// `ordered` says that the call asks if the list is in order. Else a longer list is not read, and whatever the room holds stands for it, which only a call that
+// does not ask may be made of.
+pub fn stand_in(
+    room: &mut [Buffer; 65],
+    addrs: &[u64],
+    sizes: &[u32],
+    outs: &[u8],
+    ordered: bool,
+) -> usize
+    ensures within { result ≤ 65 }
+    ensures list { StandsIn ordered (take result room.new) (given addrs.now sizes.now outs.now) }
+{
+    if addrs.len() <= 64 {
+        copy_given(&mut room[..], addrs, sizes, outs);
+        return addrs.len();
+    }
+    if ordered {
+        *room = for_longer(addrs, sizes, outs);
+    }
+    65
+}
+
+// 65 buffers that are in order exactly if a longer list is. It stands apart, since a short list need not pay for its room.
+#[inline(never)]
+fn for_longer(addrs: &[u64], sizes: &[u32], outs: &[u8]) -> [Buffer; 65]
+    requires { 64 < length addrs.now }
+    ensures { result ≡ stands_for (gathered (given addrs.now sizes.now outs.now)) }
+{
+    let mut g = gather(addrs, sizes, outs);
+    g.shorten();
+    g.list
 }
 
 impl Gathered {
@@ -52,8 +107,15 @@ impl Gathered {
         if i < 65 {
             self.list[i] = b;
         }
-        self.mixed = self.mixed || (self.written && !b.output);
-        self.written = self.written || b.output;
+        self.pass(b.output);
+    }
+
+    // Passes by a buffer of this side, for which there is no room.
+    fn pass(&mut self, output: bool)
+        ensures { self.new ≡ passed self.old output }
+    {
+        self.mixed = self.mixed || (self.written && !output);
+        self.written = self.written || output;
     }
 
     // Of a list of more than 64 buffers, 65 buffers are left that are in order exactly if it is; any other stays as it is.

@@ -9,7 +9,7 @@ ghost use Rattle.record.specs.Asked.{answer_of};
 
 mod gathering;
 
-pub use gathering::{Gathered, gather};
+pub use gathering::{Gathered, gather, stand_in};
 use record::{Answer, Queue};
 use virtio::Buffer;
 

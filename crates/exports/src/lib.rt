@@ -2,10 +2,13 @@
 // them under these names. Their record has no field for the open call, since whole calls leave none open.
 #![tactic(auto)]
 
-ghost use Rattle.std.specs.Prelude.{◌≡◌};
-ghost use Rattle.rules.specs.Calls.{add as add_is, pop_used, peek_used};
+ghost use Rattle.std.specs.Prelude.{◌≡◌, false};
+ghost use Rattle.rules.specs.Calls.{call_refusal, add as add_is, pop_used, peek_used};
 ghost use Rattle.rules.specs.New.{new as new_is};
 ghost use Rattle.opens.specs.Given.{given};
+ghost use Rattle.views.specs.Tables.{queue_of as read_queue_of};
+ghost use Rattle.tables.specs.Lent.{tables_read};
+ghost use Rattle.wellformed.specs.Room.{HasRoom};
 ghost use Rattle.access.specs.Accesses.{memory};
 ghost use Rattle.record.specs.Abs.{abs};
 ghost use Rattle.record.specs.Asked.{ask_of};
@@ -14,10 +17,19 @@ ghost use Rattle.exports.specs.Flat.{queue_of, lent_of, ask_is, made_is, answer_
 mod forms;
 pub mod single;
 
-use buffers::gather;
+use asks::may_begin;
+use buffers::stand_in;
 use record::{Ask, Queue};
-use tables::TablesMut;
+use tables::{TablesMut, TablesRef};
 use views::Core;
+use virtio::Buffer;
+
+// What a list's room holds before it is copied.
+const NO_BUFFER: Buffer = Buffer {
+    addr: 0,
+    len: 0,
+    output: false,
+};
 
 // The record's fields beside its tables and the open call.
 #[repr(C)]
@@ -60,6 +72,34 @@ pub struct FlatAsk {
     pub base_pool: u64,
 }
 
+// The tables of a record, lent to be changed. So a call changes them where they lie, and no record is copied for it.
+macro_rules! lent {
+    ($queue:ident) => {
+        TablesMut {
+            room: 64,
+            words: &mut $queue.words,
+            lens: &mut $queue.lens,
+            halves: &mut $queue.halves,
+            sides: &mut $queue.sides,
+        }
+    };
+}
+
+impl Flat {
+    // What a call over the record's tables came to, with the record that they now hold.
+    fn answered(mut self, told: LentAnswer) -> FlatAnswer
+        ensures { result ≡ record { answer = told.answer; value = told.value; steps = told.steps; queue = record self { plain = told.plain } } }
+    {
+        self.plain = told.plain;
+        FlatAnswer {
+            answer: told.answer,
+            value: told.value,
+            steps: told.steps,
+            queue: self,
+        }
+    }
+}
+
 // What new answers: the number, three addresses, and the record.
 #[repr(C)]
 #[derive(Clone, Copy)]
@@ -91,6 +131,14 @@ pub struct LentAnswer {
     pub plain: Plain,
 }
 
+// Whether an add asks if its list is in order: of more than 64 buffers only where the call is not refused before, so that no such list is read for nothing.
+fn asks_order(core: Core, t: &TablesRef, count: usize, one: &[u8], two: &[u8], pool: &[u8]) -> bool
+    requires { HasRoom core t.now.room }
+    ensures { result ≡ false → call_refusal (read_queue_of core (tables_read t.now)) (memory one.now two.now pool.now) ≡ 0 → ⊥ }
+{
+    count <= 64 || may_begin(core, t, one, two, pool).is_ok()
+}
+
 // ---- the record by value
 
 // record's new.
@@ -100,9 +148,9 @@ pub fn mayketura_new(ask: FlatAsk, one: &mut [u8], two: &mut [u8], pool: &[u8]) 
     FlatMade::from(Queue::new(Ask::from(ask), one, two, pool))
 }
 
-// record's add.
+// queue's add, over the record's tables.
 pub fn mayketura_add(
-    q: Flat,
+    mut q: Flat,
     addrs: &[u64],
     sizes: &[u32],
     outs: &[u8],
@@ -112,15 +160,18 @@ pub fn mayketura_add(
 ) -> FlatAnswer
     ensures { answer_of (answer_is result) (memory one.new two.now pool.new) ≡ add_is (abs (queue_of q)) (memory one.old two.now pool.old) (given addrs.now sizes.now outs.now) }
 {
-    let mut list = gather(addrs, sizes, outs);
-    list.shorten();
-    let done = Queue::from(q).add(list.buffers(), one, two, pool);
-    FlatAnswer::from(done)
+    let core = Core::from(q.plain);
+    let mut tables = lent!(q);
+    let ordered = asks_order(core, &tables.read(), addrs.len(), one, two, pool);
+    let mut room = [NO_BUFFER; 65];
+    let count = stand_in(&mut room, addrs, sizes, outs, ordered);
+    let done = queue::add(core, &mut tables, &room[..count], one, two, pool);
+    q.answered(LentAnswer::from(done))
 }
 
-// record's pop_used.
+// queue's pop_used, over the record's tables.
 pub fn mayketura_pop_used(
-    q: Flat,
+    mut q: Flat,
     token: u32,
     addrs: &[u64],
     sizes: &[u32],
@@ -131,17 +182,28 @@ pub fn mayketura_pop_used(
 ) -> FlatAnswer
     ensures { answer_of (answer_is result) (memory one.new two.now pool.new) ≡ pop_used (abs (queue_of q)) (memory one.old two.now pool.old) token (given addrs.now sizes.now outs.now) }
 {
-    let mut list = gather(addrs, sizes, outs);
-    list.shorten();
-    let done = Queue::from(q).pop_used(token, list.buffers(), one, two, pool);
-    FlatAnswer::from(done)
+    let mut room = [NO_BUFFER; 65];
+    let count = stand_in(&mut room, addrs, sizes, outs, false);
+    let mut tables = lent!(q);
+    let done = queue::pop_used(
+        Core::from(q.plain),
+        &mut tables,
+        token,
+        &room[..count],
+        one,
+        two,
+        pool,
+    );
+    q.answered(LentAnswer::from(done))
 }
 
-// record's peek_used.
-pub fn mayketura_peek_used(q: Flat, one: &mut [u8], two: &[u8], pool: &mut [u8]) -> FlatAnswer
+// queue's peek_used, over the record's tables.
+pub fn mayketura_peek_used(mut q: Flat, one: &mut [u8], two: &[u8], pool: &mut [u8]) -> FlatAnswer
     ensures { answer_of (answer_is result) (memory one.new two.now pool.new) ≡ peek_used (abs (queue_of q)) (memory one.old two.now pool.old) }
 {
-    FlatAnswer::from(Queue::from(q).peek_used(one, two, pool))
+    let mut tables = lent!(q);
+    let done = queue::peek_used(Core::from(q.plain), &mut tables, one, two, pool);
+    q.answered(LentAnswer::from(done))
 }
 
 // ---- the record's tables lent
@@ -162,8 +224,7 @@ pub fn mayketura_add_lent(
 ) -> LentAnswer
     ensures { answer_of (lent_is result words.new lens.new halves.new sides.new) (memory one.new two.now pool.new) ≡ add_is (abs (lent_of p words.old lens.old halves.old sides.old)) (memory one.old two.now pool.old) (given addrs.now sizes.now outs.now) }
 {
-    let mut list = gather(addrs, sizes, outs);
-    list.shorten();
+    let core = Core::from(p);
     let mut tables = TablesMut {
         room: 64,
         words,
@@ -171,7 +232,10 @@ pub fn mayketura_add_lent(
         halves,
         sides,
     };
-    let done = queue::add(Core::from(p), &mut tables, list.buffers(), one, two, pool);
+    let ordered = asks_order(core, &tables.read(), addrs.len(), one, two, pool);
+    let mut room = [NO_BUFFER; 65];
+    let count = stand_in(&mut room, addrs, sizes, outs, ordered);
+    let done = queue::add(core, &mut tables, &room[..count], one, two, pool);
     LentAnswer::from(done)
 }
 
@@ -192,8 +256,8 @@ pub fn mayketura_pop_used_lent(
 ) -> LentAnswer
     ensures { answer_of (lent_is result words.new lens.new halves.new sides.new) (memory one.new two.now pool.new) ≡ pop_used (abs (lent_of p words.old lens.old halves.old sides.old)) (memory one.old two.now pool.old) token (given addrs.now sizes.now outs.now) }
 {
-    let mut list = gather(addrs, sizes, outs);
-    list.shorten();
+    let mut room = [NO_BUFFER; 65];
+    let count = stand_in(&mut room, addrs, sizes, outs, false);
     let mut tables = TablesMut {
         room: 64,
         words,
@@ -205,7 +269,7 @@ pub fn mayketura_pop_used_lent(
         Core::from(p),
         &mut tables,
         token,
-        list.buffers(),
+        &room[..count],
         one,
         two,
         pool,

@@ -6,27 +6,43 @@ ghost use Rattle.record.specs.Abs.{abs};
 ghost use Rattle.exports.specs.Flat.{queue_of, lent_of, answer_is, lent_is, answer_of};
 
 use crate::{Flat, FlatAnswer, LentAnswer, Plain};
-use record::Queue;
 use tables::TablesRef;
 use views::Core;
 
+// The tables of a record, lent to be read.
+macro_rules! lent {
+    ($queue:ident) => {
+        TablesRef {
+            room: 64,
+            words: &$queue.words,
+            lens: &$queue.lens,
+            halves: &$queue.halves,
+            sides: &$queue.sides,
+        }
+    };
+}
+
 // ---- the record by value
 
-// record's can_pop.
+// asks' can_pop, over the record's tables.
 pub fn mayketura_can_pop<'a>(q: Flat, one: &'a [u8], two: &'a [u8], pool: &[u8]) -> FlatAnswer
     ensures { answer_of (answer_is result) (memory one.now two.now pool.now) ≡ can_pop (abs (queue_of q)) (memory one.now two.now pool.now) }
 {
-    FlatAnswer::from(Queue::from(q).can_pop(one, two, pool))
+    let tables = lent!(q);
+    let done = asks::can_pop(Core::from(q.plain), &tables, one, two, pool);
+    q.answered(LentAnswer::from(done))
 }
 
-// record's should_notify.
+// asks' should_notify, over the record's tables.
 pub fn mayketura_should_notify<'a>(q: Flat, one: &'a [u8], two: &'a [u8], pool: &[u8]) -> FlatAnswer
     ensures { answer_of (answer_is result) (memory one.now two.now pool.now) ≡ should_notify (abs (queue_of q)) (memory one.now two.now pool.now) }
 {
-    FlatAnswer::from(Queue::from(q).should_notify(one, two, pool))
+    let tables = lent!(q);
+    let done = asks::should_notify(Core::from(q.plain), &tables, one, two, pool);
+    q.answered(LentAnswer::from(done))
 }
 
-// record's set_dev_notify.
+// asks' set_dev_notify, over the record's tables.
 pub fn mayketura_set_dev_notify(
     q: Flat,
     wanted: bool,
@@ -36,7 +52,9 @@ pub fn mayketura_set_dev_notify(
 ) -> FlatAnswer
     ensures { answer_of (answer_is result) (memory one.new two.now pool.now) ≡ set_dev_notify (abs (queue_of q)) (memory one.old two.now pool.now) wanted }
 {
-    FlatAnswer::from(Queue::from(q).set_dev_notify(wanted, one, two, pool))
+    let tables = lent!(q);
+    let done = asks::set_dev_notify(Core::from(q.plain), &tables, wanted, one, two, pool);
+    q.answered(LentAnswer::from(done))
 }
 
 // ---- the record's tables lent

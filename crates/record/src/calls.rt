@@ -46,16 +46,14 @@ fn available_now(indirect: bool, n: u16, used: u16) -> u16
 
 impl Queue {
     // What a call over the tables came to, with the record that they now hold.
-    fn answered(self, done: Done) -> Answer
+    fn answered(mut self, done: Done) -> Answer
         ensures { result ≡ record { outcome = done.outcome; steps = done.steps; queue = record self { core = done.core } } }
     {
+        self.core = done.core;
         Answer {
             outcome: done.outcome,
             steps: done.steps,
-            queue: Queue {
-                core: done.core,
-                ..self
-            },
+            queue: self,
         }
     }
 

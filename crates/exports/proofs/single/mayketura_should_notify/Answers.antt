@@ -1,16 +1,20 @@
--- `exports::single::mayketura_should_notify` meets its contract: record's method, which leaves the record as it is. Assumes nothing.
+-- `exports::single::mayketura_should_notify` meets its contract: asks' call over the record's tables, as over lent ones, which leaves the record as it is. Assumes nothing.
 use Rattle.rules.specs.Calls.{should_notify}
 use Rattle.laws.specs.EveryKeeps.{should_notify_record}
 use Rattle.access.specs.Accesses.{memory}
 use Rattle.record.specs.declared.Queue.{Queue}
 use Rattle.record.specs.Abs.{abs}
-use Rattle.exports.proofs.Told.{asked_told}
+use Rattle.exports.proofs.Told.{limit_has_room, asked_said, by_value}
 use Rattle.exports.proofs.single.mayketura_should_notify.Goals as goal
+
+pub should_notify-done-requires : goal.should_notify-done-requires
+should_notify-done-requires c = limit_has_room c.from.result
 
 pub returns : goal.returns
 returns c =
-    asked_told c.args.q c.from.ensures c.should_notify.result c.from-2.result c.from-2.ensures (memory c.args.one.now c.args.two.now c.args.pool.now)
+    by_value c.args.q.words c.args.q.lens c.args.q.halves c.args.q.sides c.from-2.result c.answered.result (memory c.args.one.now c.args.two.now c.args.pool.now) _ c.answered.ensures
+    (asked_said c.args.q.plain c.from.ensures c.should_notify-done.result c.from-2.result c.from-2.ensures c.args.q.words c.args.q.lens c.args.q.halves c.args.q.sides (memory c.args.one.now c.args.two.now c.args.pool.now)
     (memory c.args.one.now c.args.two.now c.args.pool.now)
     (λ (q : Queue). should_notify (abs q) (memory c.args.one.now c.args.two.now c.args.pool.now))
     (λ q. should_notify_record (abs q) (memory c.args.one.now c.args.two.now c.args.pool.now))
-    c.should_notify.ensures
+    c.should_notify-done.ensures)
