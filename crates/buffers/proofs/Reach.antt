@@ -12,7 +12,7 @@ use Rattle.rules.specs.Record.{Queue, is_open}
 use Rattle.rules.specs.WellFormed.{well_formed}
 use Rattle.rules.specs.Calls.{fits, call_refusal, open_add, open_pop, whole, add, pop_used}
 use Rattle.buffers.specs.declared.gathering.Gathered.{Gathered}
-use Rattle.buffers.specs.Long.{open_add_long, open_pop_long}
+use Rattle.buffers.specs.Long.{AskedOrRefused, open_add_long, open_pop_long}
 use Rattle.buffers.specs.Gather.{kept, passed, filled, gathered, StandsIn, filled_length}
 
 -- ---- the copy is done as soon as it holds 65 buffers and an input came after an output
@@ -67,18 +67,18 @@ module _ (q : Queue) (m : Memory) (ordered : Bool) (bs xs : List Buffer) (s : St
       by_test (ltb 64 (length xs)) (λ e. f (ltb-true 64 (length xs) e)) (λ e. g (s.short (ltb-false 64 (length xs) e)))
 
   -- a call that is refused before its own tests doesn't look at the list
-  add_refused : (call_refusal q m ≡ 0 → ⊥) → open_add q m bs ≡ open_add q m xs
+  refused_before : (call_refusal q m ≡ 0 → ⊥) → open_add q m bs ≡ open_add q m xs
   unfolding open_add
-  add_refused z =
+  refused_before z =
       by_test (well_formed q)
       (λ w. by_test (fits q m) (λ f. by_test (is_open q.call) (λ b. rw (w, f, b)) (λ b. absurd (z (rw (w, f, b))))) (λ f. rw (w, f)))
       (λ w. rw w)
 
-  pub add_stood : (ordered ≡ false → call_refusal q m ≡ 0 → ⊥) → add q m bs ≡ add q m xs
-  add_stood unasked =
+  pub add_stood : AskedOrRefused ordered q m → add q m bs ≡ add q m xs
+  add_stood asked =
       ap (whole q.n)
       (by_length (open_add q m bs ≡ open_add q m xs)
-      (λ l. by_test ordered (λ o. open_add_long q m bs xs (s.long l) l (s.order l o)) (λ o. add_refused (unasked o)))
+      (λ l. by_test ordered (λ o. open_add_long q m bs xs (s.long l) l (s.order l o)) (λ o. refused_before (asked o)))
       (ap (open_add q m)))
 
   pub pop_stood : (t : ℕ) → pop_used q m t bs ≡ pop_used q m t xs

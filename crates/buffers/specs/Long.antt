@@ -1,5 +1,5 @@
 -- A list of more than 64 buffers, which no queue takes: of all that it holds, a call asks only whether its buffers are in order.
-use Rattle.std.specs.Prelude.{◌≡◌, true, false, List, ℕ, ◌≤◌, ◌<◌, ltb, eqb, length}
+use Rattle.std.specs.Prelude.{◌≡◌, Bool, true, false, List, ℕ, ◌≤◌, ◌<◌, ltb, eqb, length}
 use Rattle.std.proofs.Math.Path.{sym, ap}
 use Rattle.std.proofs.Common.{◌∙◌, arith, ne_eqb, lt-ltb}
 use Rattle.std.proofs.Math.Bool.{not}
@@ -18,6 +18,10 @@ use Rattle.laws.specs.StepKeeps.{power_most}
 use Rattle.laws.specs.FreeLaws.{size_most}
 use Rattle.laws.specs.Added.{size_length}
 use Rattle.laws.specs.OwnIs.{list_means}
+
+-- an add asks if its list is in order, as `ordered` tells, or is refused before its own tests
+abbrev pub AskedOrRefused : Bool → Queue → Memory → Type 0
+AskedOrRefused ordered q m = ordered ≡ false → call_refusal q m ≡ 0 → ⊥
 
 -- where a good record has no room, what comes after that test does not matter
 refused_alike

@@ -1,6 +1,6 @@
 // A list of buffers copied from three slices of numbers, as a program in C gives it, with no heap.
 // A list of more than 64 buffers fits no queue, and of such a list a call asks only whether it is in order. So 65 buffers can stand for it.
-ghost use Rattle.std.specs.Prelude.{◌≡◌, not, cond, eqb, ltb, ◌≤◌, ◌<◌, length, get_or, take};
+ghost use Rattle.std.specs.Prelude.{◌≡◌, cond, ltb, ◌≤◌, ◌<◌, length, take};
 ghost use Rattle.opens.specs.Given.{given};
 ghost use Rattle.buffers.specs.Gather.{none_of, kept, passed, gathered, shortened, list_of, stands_for, StandsIn};
 
@@ -16,7 +16,7 @@ pub struct Gathered {
     pub mixed: bool,
 }
 
-// The copy of the list that three slices of numbers say. Behind the buffers that are kept only the sides are read, and those no further than there is anything
+// The copy of the list that three slices of numbers say. Behind the buffers that are kept only sides count, and they are read no further than there is anything
 // to learn of them.
 pub fn gather(addrs: &[u64], sizes: &[u32], outs: &[u8]) -> Gathered
     ensures { result ≡ gathered (given addrs.now sizes.now outs.now) }
@@ -29,7 +29,7 @@ pub fn gather(addrs: &[u64], sizes: &[u32], outs: &[u8]) -> Gathered
         if g.mixed {
             return g;
         }
-        g.pass(is_output(outs, i));
+        g.pass(buffer_at(addrs, sizes, outs, i).output);
     }
     g
 }
@@ -39,13 +39,6 @@ fn few(count: usize) -> usize
     ensures { result ≡ cond (ltb count 65) count 65 }
 {
     if count < 65 { count } else { 65 }
-}
-
-// Whether buffer i is an output; a side that is missing is an input's.
-fn is_output(outs: &[u8], i: usize) -> bool
-    ensures { result ≡ not (eqb (get_or outs.now i 0) 0) }
-{
-    outs.get(i).copied().unwrap_or(0) != 0
 }
 
 // Puts the list that a call is made of into a room, and answers how many buffers it has: the caller's list, or 65 buffers that are answered as a longer one is.
@@ -66,14 +59,14 @@ pub fn stand_in(
         return addrs.len();
     }
     if ordered {
-        *room = for_longer(addrs, sizes, outs);
+        *room = stand_in_for_longer(addrs, sizes, outs);
     }
     65
 }
 
 // 65 buffers that are in order exactly if a longer list is. It stands apart, since a short list need not pay for its room.
 #[inline(never)]
-fn for_longer(addrs: &[u64], sizes: &[u32], outs: &[u8]) -> [Buffer; 65]
+fn stand_in_for_longer(addrs: &[u64], sizes: &[u32], outs: &[u8]) -> [Buffer; 65]
     requires { 64 < length addrs.now }
     ensures { result ≡ stands_for (gathered (given addrs.now sizes.now outs.now)) }
 {

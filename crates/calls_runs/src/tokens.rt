@@ -42,7 +42,7 @@ impl<'a> Script<'a> {
         self.number().min(most as u64) as usize
     }
 
-    // A list: three counts, of addresses, sizes and sides, and these numbers. It has as many buffers as addresses, which opens' `given` makes of the three.
+    // A list: three counts, of addresses, sizes and sides, and these numbers. What list they make is opens' `given`.
     pub fn list<'b>(&mut self, room: &'b mut [Buffer; MOST]) -> &'b [Buffer] {
         let count = self.capped(MOST);
         let size_count = self.capped(MOST);

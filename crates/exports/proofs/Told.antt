@@ -2,14 +2,14 @@
 -- C's record. The record that goes there and comes back loses no open call (specs/Closed), and a list that C gives goes as one that can stand in for it (buffers
 -- Reach). The laws of record's answers and of lists that are copied whole (`asked_told`, `add_told`, `pop_told`, `peek_told`, `listed`) are for callers that go
 -- that way. Assumes nothing.
-use Rattle.std.specs.Prelude.{◌≡◌, refl, Bool, false, List, ℕ}
+use Rattle.std.specs.Prelude.{◌≡◌, refl, Bool, List, ℕ}
 use Rattle.std.proofs.Common.{ap, sym, subst, arith, ◌∙◌}
 use Rattle.virtio.specs.declared.Buffer.{Buffer}
 use Rattle.virtio.specs.Memory.{Memory}
 use Rattle.rules.specs.Answer.{Outcome}
 use Rattle.rules.specs.New as rule
 use Rattle.rules.specs.Record as model
-use Rattle.rules.specs.Calls.{call_refusal, add, pop_used, peek_used}
+use Rattle.rules.specs.Calls.{add, pop_used, peek_used}
 use Rattle.views.specs.declared.Core.{Core}
 use Rattle.views.specs.Tables.{tables_of}
 use Rattle.tables.specs.declared.TablesMut.{TablesMut}
@@ -25,6 +25,7 @@ use Rattle.record.specs.Abs.{abs, Arrays}
 use Rattle.record.specs.Asked as records
 use Rattle.record.specs.Fine.{size_small}
 use Rattle.buffers.specs.declared.gathering.Gathered.{Gathered}
+use Rattle.buffers.specs.Long.{AskedOrRefused}
 use Rattle.buffers.specs.Gather.{gathered, shortened, list_of, stands_for, StandsIn}
 use Rattle.buffers.proofs.Stands.{add_stands, pop_stands}
 use Rattle.buffers.proofs.Reach.{add_stood, pop_stood}
@@ -52,10 +53,6 @@ read_has_room c r e = subst (HasRoom c) (sym e) (limit_has_room c)
 pub listed : (xs bs : List Buffer) (s g : Gathered) → bs ≡ list_of s → s ≡ shortened g → g ≡ gathered xs → bs ≡ stands_for (gathered xs)
 listed xs bs s g b e f = b ∙ ap list_of (e ∙ ap shortened f)
 
--- an add's order was left out only where the call is refused before
-abbrev pub Unasked : Bool → model.Queue → Memory → Type 0
-Unasked ordered q m = ordered ≡ false → call_refusal q m ≡ 0 → ⊥
-
 pub new_told : (k : rule.Ask) (d : Made) (r : FlatMade) (m m' : Memory) → r ≡ flat_made d → records.made_of d m' ≡ rule.new k m → made_of (made_is r) m' ≡ rule.new k m
 new_told k d r m m' gives e =
     ap (λ (x : FlatMade). made_of (made_is x) m') gives ∙ new_back k d (queue_of (flat_of d.queue)) m m' refl e
@@ -73,9 +70,9 @@ module _ (words lens halves : List ℕ) (sides : List Bool) where
   pub by_value : (a : LentAnswer) (r : FlatAnswer) (m : Memory) (o : Outcome) → r ≡ beside a → answer_of (lent_is a words lens halves sides) m ≡ o → answer_of (answer_is r) m ≡ o
   by_value a r m o e s = ap (λ (x : FlatAnswer). answer_of (answer_is x) m) e ∙ s
 
--- what refuses a call over tables that are read
-pub unasked_read : (ordered : Bool) (m : Memory) (k q : model.Queue) → k ≡ q → Unasked ordered k m → Unasked ordered q m
-unasked_read ordered m k q e u = subst (λ x. Unasked ordered x m) e u
+-- and so of a record that is the same
+pub asked_read : (ordered : Bool) (m : Memory) (k q : model.Queue) → k ≡ q → AskedOrRefused ordered k m → AskedOrRefused ordered q m
+asked_read ordered m k q e u = subst (λ x. AskedOrRefused ordered x m) e u
 
 -- ---- the record by value: f as C has it and q as record has it, record's answer d and C's r
 
@@ -150,7 +147,7 @@ module _ (p : Plain) {c : Core} (got : c ≡ core_of p) (d : Done) (r : LentAnsw
     limited : (o : Outcome) → done ≡ o → records.answer_of now m' ≡ o
     limited o e = ap (λ (k : ℕ). done_of d (tables_of k u.words.now u.lens.now u.halves.now u.sides.now) m') (sym room) ∙ e
 
-    pub add_said : (ordered : Bool) (xs : List Buffer) {bs : List Buffer} → Unasked ordered (abs before) m → StandsIn ordered bs xs → done ≡ add asked m bs → answers ≡ add (abs before) m xs
+    pub add_said : (ordered : Bool) (xs : List Buffer) {bs : List Buffer} → AskedOrRefused ordered (abs before) m → StandsIn ordered bs xs → done ≡ add asked m bs → answers ≡ add (abs before) m xs
     add_said ordered xs {bs} u s e =
         said _ _ _ _ _ (add_back before (held c) now then m m' a i refl (ap held got) refl bs (limited _ e)) ∙ add_stood (abs before) m ordered bs xs s u
 

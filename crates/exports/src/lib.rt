@@ -2,8 +2,8 @@
 // them under these names. Their record has no field for the open call, since whole calls leave none open.
 #![tactic(auto)]
 
-ghost use Rattle.std.specs.Prelude.{◌≡◌, false};
-ghost use Rattle.rules.specs.Calls.{call_refusal, add as add_is, pop_used, peek_used};
+ghost use Rattle.std.specs.Prelude.{◌≡◌};
+ghost use Rattle.rules.specs.Calls.{add as add_is, pop_used, peek_used};
 ghost use Rattle.rules.specs.New.{new as new_is};
 ghost use Rattle.opens.specs.Given.{given};
 ghost use Rattle.views.specs.Tables.{queue_of as read_queue_of};
@@ -12,6 +12,7 @@ ghost use Rattle.wellformed.specs.Room.{HasRoom};
 ghost use Rattle.access.specs.Accesses.{memory};
 ghost use Rattle.record.specs.Abs.{abs};
 ghost use Rattle.record.specs.Asked.{ask_of};
+ghost use Rattle.buffers.specs.Long.{AskedOrRefused};
 ghost use Rattle.exports.specs.Flat.{queue_of, lent_of, ask_is, made_is, answer_is, lent_is, made_of, answer_of};
 
 mod forms;
@@ -134,7 +135,7 @@ pub struct LentAnswer {
 // Whether an add asks if its list is in order: of more than 64 buffers only where the call is not refused before, so that no such list is read for nothing.
 fn asks_order(core: Core, t: &TablesRef, count: usize, one: &[u8], two: &[u8], pool: &[u8]) -> bool
     requires { HasRoom core t.now.room }
-    ensures { result ≡ false → call_refusal (read_queue_of core (tables_read t.now)) (memory one.now two.now pool.now) ≡ 0 → ⊥ }
+    ensures { AskedOrRefused result (read_queue_of core (tables_read t.now)) (memory one.now two.now pool.now) }
 {
     count <= 64 || may_begin(core, t, one, two, pool).is_ok()
 }

@@ -8,7 +8,7 @@ use Rattle.opens.specs.Given.{given}
 use Rattle.refusals.specs.Checked.{Indices}
 use Rattle.record.specs.Abs.{abs, Arrays}
 use Rattle.exports.specs.Flat.{core_of, queue_of}
-use Rattle.exports.proofs.Told.{limit_has_room, read_has_room, unasked_read, add_said, by_value}
+use Rattle.exports.proofs.Told.{limit_has_room, read_has_room, asked_read, add_said, by_value}
 use Rattle.exports.proofs.mayketura_add.Goals.{Start}
 use Rattle.exports.proofs.mayketura_add.Goals as goal
 
@@ -35,5 +35,5 @@ returns c =
     (add_said q.plain c.from-core.ensures c.add-done.result c.from.result c.from.ensures q.words q.lens q.halves q.sides
     (memory c.args.one.now c.args.two.now c.args.pool.now) (memory c.add-done.new.one c.args.two.now c.add-done.new.pool)
     c.add-done.new.t c.add-done.ensures.same_loan.room (arrays s) (indices s) c.asks_order-ordered.result (given c.args.addrs.now c.args.sizes.now c.args.outs.now)
-    (unasked_read c.asks_order-ordered.result _ _ _ read c.asks_order-ordered.ensures)
+    (asked_read c.asks_order-ordered.result _ _ _ read c.asks_order-ordered.ensures)
     c.stand_in-count.ensures.list c.add-done.ensures.done)

@@ -8,7 +8,7 @@ use Rattle.opens.specs.Given.{given}
 use Rattle.refusals.specs.Checked.{Indices}
 use Rattle.record.specs.Abs.{abs, Arrays}
 use Rattle.exports.specs.Flat.{core_of, lent_of}
-use Rattle.exports.proofs.Told.{limit_has_room, read_has_room, unasked_read, add_said}
+use Rattle.exports.proofs.Told.{limit_has_room, read_has_room, asked_read, add_said}
 use Rattle.exports.proofs.mayketura_add_lent.Goals as goal
 
 pub asks_order-ordered-requires : goal.asks_order-ordered-requires
@@ -27,5 +27,5 @@ returns c =
     add_said c.args.p c.from-core.ensures c.add-done.result c.from.result c.from.ensures c.args.words.now c.args.lens.now c.args.halves.now c.args.sides.now
     (memory c.args.one.now c.args.two.now c.args.pool.now) (memory c.add-done.new.one c.args.two.now c.add-done.new.pool)
     c.add-done.new.t c.add-done.ensures.same_loan.room arrays indices c.asks_order-ordered.result (given c.args.addrs.now c.args.sizes.now c.args.outs.now)
-    (unasked_read c.asks_order-ordered.result _ _ _ read c.asks_order-ordered.ensures)
+    (asked_read c.asks_order-ordered.result _ _ _ read c.asks_order-ordered.ensures)
     c.stand_in-count.ensures.list c.add-done.ensures.done

@@ -1,9 +1,8 @@
 -- `buffers::gathering::gather` meets its contract, by what a turn of each loop copies or passes by.
 use Rattle.std.proofs.Common.{◌≡◌, length, List, ℕ, ◌≤◌, ap, ap₂, sym, ◌∙◌, add-one, arith}
 use Rattle.virtio.specs.declared.Buffer.{Buffer}
-use Rattle.virtio.specs.Desc.{no_buffer}
 use Rattle.opens.specs.Given.{given}
-use Rattle.opens.specs.Turns.{given_length, given_at}
+use Rattle.opens.specs.Turns.{given_length}
 use Rattle.buffers.specs.declared.gathering.Gathered.{Gathered}
 use Rattle.buffers.specs.Gather.{none_of, kept, passed, filled, filled_none, filled_next}
 use Rattle.buffers.proofs.Reach.{filled_done, passed_by, behind, few_most}
@@ -32,7 +31,7 @@ loop-i-2-preserved c =
     let i : ℕ = c.loop-i-2.i in
     let l : 65 ≤ i = behind (length c.args.addrs.now) c.few-i.result i c.few-i.ensures (omega (arith, c.loop-i-2.auto.i)) (omega arith) in
     c.pass.ensures
-    ∙ (ap₂ passed c.loop-i-2.invariant (c.is_output.ensures ∙ ap (λ (b : Buffer). b.output) (given_at c.args.addrs.now c.args.sizes.now c.args.outs.now i (omega arith)))
+    ∙ (ap₂ passed c.loop-i-2.invariant (ap (λ (b : Buffer). b.output) c.buffer_at-in-loop-i-2.ensures)
     ∙ (passed_by xs i l ∙ ap (filled xs) (sym (add-one i))))
 
 pub returns : goal.returns

@@ -18,10 +18,10 @@ pub returns-then-ordered-clause-list : goal.returns-then-ordered-clause-list
 returns-then-ordered-clause-list c =
     let xs : List Buffer = given c.args.addrs.now c.args.sizes.now c.args.outs.now in
     let n : length xs ≡ length c.args.addrs.now = given_length c.args.addrs.now c.args.sizes.now c.args.outs.now in
-    let all : take 65 c.for_longer.result ≡ c.for_longer.result = take_all 65 c.for_longer.result (omega arith) in record {
+    let all : take 65 c.stand_in_for_longer.result ≡ c.stand_in_for_longer.result = take_all 65 c.stand_in_for_longer.result (omega arith) in record {
       short = λ l. absurd (omega arith);
-      long = λ l. let k : length (take 65 c.for_longer.result) ≡ length c.for_longer.result = ap length all in omega (arith, ap length c.for_longer.ensures, long_length xs l);
-      order = λ l o. ap in_order (all ∙ c.for_longer.ensures) ∙ long_order xs l;
+      long = λ l. let k : length (take 65 c.stand_in_for_longer.result) ≡ length c.stand_in_for_longer.result = ap length all in omega (arith, ap length c.stand_in_for_longer.ensures, long_length xs l);
+      order = λ l o. ap in_order (all ∙ c.stand_in_for_longer.ensures) ∙ long_order xs l;
     }
 
 pub returns-else-ordered-clause-list : goal.returns-else-ordered-clause-list

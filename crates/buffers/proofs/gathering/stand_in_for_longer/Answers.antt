@@ -1,4 +1,4 @@
--- `buffers::gathering::for_longer` meets its contract: 65 buffers are all that the copy of a longer list then has.
+-- `buffers::gathering::stand_in_for_longer` meets its contract: 65 buffers are all that the copy of a longer list then has.
 use Rattle.std.proofs.Common.{◌≡◌, length, List, ◌<◌, ap, sym, ◌∙◌, arith}
 use Rattle.virtio.specs.declared.Buffer.{Buffer}
 use Rattle.opens.specs.Given.{given}
@@ -6,7 +6,7 @@ use Rattle.opens.specs.Turns.{given_length}
 use Rattle.buffers.specs.declared.gathering.Gathered.{Gathered}
 use Rattle.buffers.specs.Gather.{gathered, shortened, shortened_cut, filled_count}
 use Rattle.buffers.proofs.Stands.{long_is}
-use Rattle.buffers.proofs.gathering.for_longer.Goals as goal
+use Rattle.buffers.proofs.gathering.stand_in_for_longer.Goals as goal
 
 pub returns : goal.returns
 returns c =
